@@ -1,0 +1,60 @@
+-- How a test is taken apart: `cond` on one side, the same test on both sides, a ladder of rules of which the first
+-- that applies decides, and a conjunction. Assumes nothing.
+use mathlib.Core.Path.{_≡_, refl, sym, subst}
+use mathlib.Core.Bool.{Bool, true, false, not, cond, _&&_, Bool·beq}
+use Prim.Native.Nat.{ℕ, _<_}
+use native.Mathlib.Omega.{arith}
+
+-- ---- a choice
+
+-- what holds on either way holds of the choice
+pub cond-elim : {A : Type 0} (P : A → Type 0) (t : Bool) {x y : A} → (t ≡ true → P x) → (t ≡ false → P y) → P (cond t x y)
+cond-elim P true f g = f refl
+cond-elim P false f g = g refl
+
+-- both sides make the same test
+pub cond-elim₂ : {A B : Type 0} (P : A → B → Type 0) (s t : Bool) {x y : A} {u v : B} → s ≡ t → (t ≡ true → P x u) → (t ≡ false → P y v)
+    → P (cond s x y) (cond t u v)
+cond-elim₂ P s true {x} {y} {u} {v} e f g = subst (λ (w : Bool). P (cond w x y) u) (sym e) (f refl)
+cond-elim₂ P s false {x} {y} {u} {v} e f g = subst (λ (w : Bool). P (cond w x y) v) (sym e) (g refl)
+
+-- a choice between equals
+pub cond-same : {A : Type 0} (t : Bool) (x : A) → cond t x x ≡ x
+cond-same true x = refl
+cond-same false x = refl
+
+-- a function of a choice is the choice of the function's values
+pub cond-map : {A B : Type 0} (f : A → B) (t : Bool) (x y : A) → f (cond t x y) ≡ cond t (f x) (f y)
+cond-map f true x y = refl
+cond-map f false x y = refl
+
+-- ---- a ladder of rules, the first that applies
+
+-- an outcome that f accepts was not given by a rule whose outcome f does not accept
+pub ladder-later : {A : Type 0} (f : A → Bool) (t : Bool) (x y z : A) → f x ≡ false → f z ≡ true → cond t x y ≡ z → (t ≡ false) × (y ≡ z)
+ladder-later f true x y z n m e = let w : _≡_ {A = Bool} true false = cc in (w, cc)
+ladder-later f false x y z n m e = (refl, e)
+
+-- numbered rules: no number above 0 was given
+pub ladder-none : (t : Bool) (k x : ℕ) → 0 < k → cond t k x ≡ 0 → (t ≡ false) × (x ≡ 0)
+ladder-none true k x h e = absurd (omega arith)
+ladder-none false k x h e = (refl, e)
+
+-- ---- conjunction, negation, equality of tests
+
+pub and-true : (a b : Bool) → (a && b) ≡ true → (a ≡ true) × (b ≡ true)
+and-true true b e = (refl, e)
+and-true false b e = (e, cc)
+
+pub true-and-true : (a b : Bool) → a ≡ true → b ≡ true → (a && b) ≡ true
+true-and-true a b p q = cc
+
+pub beq-eq : (a b : Bool) → Bool·beq a b ≡ true → a ≡ b
+beq-eq true true e = refl
+beq-eq true false e = sym e
+beq-eq false true e = e
+beq-eq false false e = refl
+
+pub beq-refl : (a : Bool) → Bool·beq a a ≡ true
+beq-refl true = refl
+beq-refl false = refl

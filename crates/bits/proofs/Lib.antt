@@ -1,0 +1,4 @@
+pub mod Cases
+pub mod Bit
+pub mod Mask
+pub mod Every

@@ -1,0 +1,4 @@
+pub mod Mask
+pub mod Record
+pub mod Sound
+pub mod Pin

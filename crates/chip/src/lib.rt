@@ -1,0 +1,289 @@
+// The controller's record: its parts, the power-on record, when it is sound, and the INT pin.
+use ring::Ring;
+ghost use mathlib.Core.Path.{_≡_};
+ghost use mathlib.Core.Bool.{cond};
+ghost use Rattle.chip.specs.Record.{powerOn};
+ghost use Rattle.chip.specs.Sound.{soundEp0, soundEp1, soundEp2, soundEp3, soundRegisters, soundRequests, soundChip};
+ghost use Rattle.chip.specs.Pin.{interruptActive, pinLevel, pinAnswer};
+
+// Endpoint 0: one buffer for both directions, and the setup bytes (SUDFIFO). A toggle is true for DATA1.
+pub struct Endpoint0 {
+    pub bytes: [u8; 64],
+    pub setup: [u8; 8],
+    // R5, EP0BC: the count last armed or received.
+    pub count: u8,
+    pub armed: bool,
+    // Positions of R0 for reads and writes, and of R4.
+    pub readpos: u8,
+    pub writepos: u8,
+    pub setuppos: u8,
+    pub intoggle: bool,
+    pub outtoggle: bool,
+    // A SETUP was accepted since the last reset.
+    pub current: bool,
+}
+
+// Endpoint 1 OUT, double-buffered.
+pub struct Endpoint1 {
+    pub ring: Ring,
+    pub readpos: u8,
+    pub toggle: bool,
+}
+
+// Endpoint 2 IN, double-buffered.
+pub struct Endpoint2 {
+    pub ring: Ring,
+    // R7, EP2INBC: the count last armed.
+    pub count: u8,
+    pub writepos: u8,
+    pub toggle: bool,
+}
+
+// Endpoint 3 IN.
+pub struct Endpoint3 {
+    pub bytes: [u8; 64],
+    // R8, EP3INBC: the count last armed.
+    pub count: u8,
+    pub armed: bool,
+    pub writepos: u8,
+    pub toggle: bool,
+}
+
+// R9 to R17, R19 and R20, by the maker's names. R18 is constant.
+pub struct Registers {
+    pub epstalls: u8,
+    pub clrtogs: u8,
+    pub epirq: u8,
+    pub epien: u8,
+    pub usbirq: u8,
+    pub usbien: u8,
+    pub usbctl: u8,
+    pub cpuctl: u8,
+    pub pinctl: u8,
+    pub fnaddr: u8,
+    pub iopins: u8,
+}
+
+pub struct Chip {
+    pub ep0: Endpoint0,
+    pub ep1: Endpoint1,
+    pub ep2: Endpoint2,
+    pub ep3: Endpoint3,
+    pub registers: Registers,
+    // The VBUS comparator's level.
+    pub vbus: bool,
+    // The oscillator is stable (000 page 49).
+    pub oscok: bool,
+}
+
+// Why a call is refused; `refusalNumber` gives document 01's number.
+pub enum Refusal {
+    Unsound,
+    NoCommand,
+    LongTransfer,
+    ShortBuffer,
+    UnknownEvent,
+    BadPayload,
+    BadAddress,
+}
+
+// The resting level of the INT pin; `pinNumber` gives its value.
+pub enum Pin {
+    Low,
+    High,
+    Open,
+}
+
+pub enum PinAnswer {
+    Refused(Refusal),
+    Level(Pin),
+}
+
+impl Endpoint0 {
+    fn is_sound(self) -> bool
+        ensures { λ r. ⌜ r ≡ soundEp0 self ⌝ }
+    {
+        (self.count <= 64) & (self.readpos <= 64) & (self.writepos <= 64) & (self.setuppos <= 8)
+    }
+}
+
+impl Endpoint1 {
+    fn is_sound(self) -> bool
+        ensures { λ r. ⌜ r ≡ soundEp1 self ⌝ }
+    {
+        let r = self.ring;
+        r.is_sound() & (self.readpos <= 64)
+    }
+}
+
+impl Endpoint2 {
+    fn is_sound(self) -> bool
+        ensures { λ r. ⌜ r ≡ soundEp2 self ⌝ }
+    {
+        let r = self.ring;
+        r.is_sound() & (self.count <= 64) & (self.writepos <= 64)
+    }
+}
+
+impl Endpoint3 {
+    fn is_sound(self) -> bool
+        ensures { λ r. ⌜ r ≡ soundEp3 self ⌝ }
+    {
+        (self.count <= 64) & (self.writepos <= 64)
+    }
+}
+
+impl Registers {
+    // Unused bits are 0.
+    fn is_sound(self) -> bool
+        ensures { λ r. ⌜ r ≡ soundRegisters self ⌝ }
+    {
+        (self.epstalls & 0x80 == 0)
+            & (self.clrtogs & 0x1f == 0)
+            & (self.epirq & 0xc0 == 0)
+            & (self.epien & 0xc0 == 0)
+            & (self.usbctl & 0x03 == 0)
+            & (self.cpuctl & 0xfe == 0)
+            & (self.fnaddr <= 127)
+    }
+
+    // IE is set, and some request has its enable bit set.
+    fn interrupt_active(self) -> bool
+        ensures { λ r. ⌜ r ≡ interruptActive self ⌝ }
+    {
+        (self.cpuctl & Chip::IE != 0)
+            & ((self.epirq & self.epien != 0) | (self.usbirq & self.usbien != 0))
+    }
+
+    fn pin_level(self) -> Pin
+        ensures { λ r. ⌜ r ≡ pinLevel self ⌝ }
+    {
+        let active = self.interrupt_active();
+        if self.pinctl & Chip::INTLEVEL != 0 {
+            return choose_level(active, Pin::Low, Pin::Open);
+        }
+        if self.pinctl & Chip::POSINT != 0 {
+            return choose_level(active, Pin::High, Pin::Low);
+        }
+        choose_level(active, Pin::Low, Pin::High)
+    }
+}
+
+fn choose_level(active: bool, on: Pin, off: Pin) -> Pin
+    ensures { λ r. ⌜ r ≡ cond active on off ⌝ }
+{
+    if active { on } else { off }
+}
+
+impl Chip {
+    // The bytes of a packet, of a transfer, and of a SETUP, at most.
+    pub const BUFFER: usize = 64;
+
+    pub const TRANSFER: usize = 4096;
+
+    pub const SETUP: usize = 8;
+
+    // R11, EPIRQ
+    pub const IN3BAVIRQ: u8 = 0x10;
+
+    pub const IN2BAVIRQ: u8 = 0x08;
+
+    pub const OUT1DAVIRQ: u8 = 0x04;
+
+    // R16, CPUCTL
+    pub const IE: u8 = 0x01;
+
+    // R17, PINCTL
+    pub const INTLEVEL: u8 = 0x08;
+
+    pub const POSINT: u8 = 0x04;
+
+    pub fn power_on() -> Self
+        ensures { λ r. ⌜ r ≡ powerOn ⌝ }
+    {
+        let ring = Ring::empty();
+        Chip {
+            ep0: Endpoint0 {
+                bytes: [0u8; 64],
+                setup: [0u8; 8],
+                count: 0,
+                armed: false,
+                readpos: 0,
+                writepos: 0,
+                setuppos: 0,
+                intoggle: false,
+                outtoggle: false,
+                current: false,
+            },
+            ep1: Endpoint1 {
+                ring,
+                readpos: 0,
+                toggle: false,
+            },
+            ep2: Endpoint2 {
+                ring,
+                count: 0,
+                writepos: 0,
+                toggle: false,
+            },
+            ep3: Endpoint3 {
+                bytes: [0u8; 64],
+                count: 0,
+                armed: false,
+                writepos: 0,
+                toggle: false,
+            },
+            registers: Registers {
+                epstalls: 0,
+                clrtogs: 0,
+                epirq: 0x19,
+                epien: 0,
+                usbirq: 0,
+                usbien: 0,
+                usbctl: 0,
+                cpuctl: 0,
+                pinctl: 0,
+                fnaddr: 0,
+                iopins: 0,
+            },
+            vbus: false,
+            oscok: false,
+        }
+    }
+
+    // The request bits tell whether packets wait.
+    fn sound_requests(self) -> bool
+        ensures { λ r. ⌜ r ≡ soundRequests self ⌝ }
+    {
+        let requests = self.registers.epirq;
+        ((requests & Chip::IN2BAVIRQ != 0) == (self.ep2.ring.waiting < 2))
+            & ((requests & Chip::IN3BAVIRQ != 0) == !self.ep3.armed)
+            & ((requests & Chip::OUT1DAVIRQ != 0) == (0 < self.ep1.ring.waiting))
+    }
+
+    pub fn is_sound(self) -> bool
+        ensures { λ r. ⌜ r ≡ soundChip self ⌝ }
+    {
+        let a = self.ep0;
+        let b = self.ep1;
+        let c = self.ep2;
+        let d = self.ep3;
+        let g = self.registers;
+        a.is_sound()
+            & b.is_sound()
+            & c.is_sound()
+            & d.is_sound()
+            & g.is_sound()
+            & self.sound_requests()
+    }
+
+    pub fn int_pin(self) -> PinAnswer
+        ensures { λ r. ⌜ r ≡ pinAnswer self ⌝ }
+    {
+        if self.is_sound() {
+            let g = self.registers;
+            return PinAnswer::Level(g.pin_level());
+        }
+        PinAnswer::Refused(Refusal::Unsound)
+    }
+}

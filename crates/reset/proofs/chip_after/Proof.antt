@@ -1,0 +1,42 @@
+-- `chip_after` meets its promise. Each part is what its own rule gives.
+-- Assumes nothing.
+use borrow.Author.Needs.{needs}
+use Rattle.reset.proofs.chip_after.Statement.{statement}
+use Rattle.reset.proofs.chip_after.Tie as tie
+
+ep0-after-requires : tie.Need-ep0-after-requires
+ep0-after-requires c κs = search needs
+
+ep1-after-requires : tie.Need-ep1-after-requires
+ep1-after-requires c κs = search needs
+
+ep2-after-requires : tie.Need-ep2-after-requires
+ep2-after-requires c κs = search needs
+
+ep3-after-requires : tie.Need-ep3-after-requires
+ep3-after-requires c κs = search needs
+
+registers-after-requires : tie.Need-registers-after-requires
+registers-after-requires c κs = search needs
+
+vbus-after-requires : tie.Need-vbus-after-requires
+vbus-after-requires c κs = search needs
+
+oscok-after-requires : tie.Need-oscok-after-requires
+oscok-after-requires c κs = search needs
+
+returns : tie.Need-returns
+returns c = rw (c .before .before .before .before .before .before .ep0-after .ensures, c .before .before .before .before .before .ep1-after .ensures, c .before .before .before .before .ep2-after .ensures, c .before .before .before .ep3-after .ensures, c .before .before .registers-after .ensures, c .before .vbus-after .ensures, c .oscok-after .ensures)
+
+pub chip-after-spec : {M : Type 1} → statement M
+chip-after-spec =
+    tie.close
+    (tie.spec
+    ep0-after-requires
+    ep1-after-requires
+    ep2-after-requires
+    ep3-after-requires
+    registers-after-requires
+    vbus-after-requires
+    oscok-after-requires
+    returns)

@@ -1,0 +1,5 @@
+pub mod Packet
+pub mod Copy
+pub mod Places
+pub mod Queue
+pub mod Laws
