@@ -11,7 +11,7 @@ use lib.Dec.{eqb}
 use lib.Pow.{pow-pos}
 use lib.Bits.{bitAnd, bitOr, and-comm, and-zero-r, or-zero-r, and-le-r, or-lt, or-add-and, and-le-l, and-high}
 use borrow.Author.Tests.{eqb-true, eq-eqb, ne-eqb, not-false}
-use Rattle.bits.specs.Bit.{bit, has, lowered, stored, masked}
+use Rattle.bits.specs.Bit.{bit, lacks, has, stored, masked}
 use Rattle.bits.proofs.Bit.{bit-and, bit-or, bit-ext}
 
 -- ---- conjunction and disjunction
@@ -59,6 +59,18 @@ pub has-narrow : (x m p : ℕ) → has x p ≡ false → has x (bitAnd m p) ≡ 
 has-narrow x m p h =
     let none : bitAnd x p ≡ 0 = eqb-true (bitAnd x p) 0 (not-false (eqb (bitAnd x p) 0) h) in
     ap (λ (n : ℕ). not (eqb n 0)) (ap (bitAnd x) (and-comm m p) ∙ sym (and-assoc x p m) ∙ ap (λ (n : ℕ). bitAnd n m) none)
+
+-- a mask's bits that x lacks stay 0 where none is set
+pub lacks-masked : (keep set x p : ℕ) → lacks set p ≡ true → lacks x p ≡ true → lacks (masked keep set x) p ≡ true
+lacks-masked keep set x p h g =
+    not-false (lacks (masked keep set x) p)
+    (has-masked keep set x p ∙ ap (λ (t : Bool). not t || has x (bitAnd keep p)) h ∙ has-narrow x keep p (ap not g))
+
+-- and bits that are neither kept nor set are 0; the last two arguments are refl at numerals
+pub masked-lacks : (keep set x p : ℕ) → lacks set p ≡ true → bitAnd keep p ≡ 0 → lacks (masked keep set x) p ≡ true
+masked-lacks keep set x p h g =
+    not-false (lacks (masked keep set x) p)
+    (has-masked keep set x p ∙ ap (λ (t : Bool). not t || has x (bitAnd keep p)) h ∙ ap (has x) g ∙ has-none x)
 
 -- a mask of one bit tests that bit
 one-bit : (b n : ℕ) → b < 2 → 0 < n → not (eqb (b * n) 0) ≡ eqb b 1

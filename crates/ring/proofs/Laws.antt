@@ -57,7 +57,7 @@ module _ (n : ℕ) (r : Ring) where
 
 module _ (n : ℕ) (r : Ring) (fits : Fits n r) where
   next-lt : nextBuffer n r < n
-  next-lt = mod-lt (r .oldest + r .waiting) (omega (arith, fits .turn))
+  next-lt = mod-lt _ (omega (arith, fits .turn))
 
   -- a waiting packet is not in the next buffer, where there is one
   waits-apart : r .waiting < n → (j : ℕ) → j < r .waiting → (r .oldest + j) % n ≡ nextBuffer n r → ⊥

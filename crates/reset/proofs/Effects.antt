@@ -1,0 +1,60 @@
+-- What a reset leaves, of any record: power-on is the power-on record; every reset gives a sound record in which nothing
+-- waits; which bytes become 0. Assumes nothing.
+use mathlib.Core.Path.{_≡_, refl, sym, ap, _∙_}
+use mathlib.Core.Bool.{Bool, true, false}
+use mathlib.Core.List.{List, []}
+use Prim.Native.Nat.{ℕ, _≤_}
+use lib.ListN.{replicate}
+use lib.Bits.{bitAnd, and-zero-r}
+use Rattle.bits.proofs.Mask.{masked-lacks}
+use Rattle.ring.specs.Ring.{queue}
+use Rattle.chip.specs.declared.Chip.{Chip}
+use Rattle.chip.specs.Record.{powerOn}
+use Rattle.chip.specs.Sound.{soundChip}
+use Rattle.reset.specs.declared.Reset.{Reset}
+use Rattle.reset.specs.declared.Reset.the-variants.{PowerOn, ChipReset, BusReset}
+use Rattle.reset.specs.Table.{registerAfter}
+use Rattle.reset.specs.Reset.{wipes, chipAfter}
+
+-- power-on forgets whatever the record held
+pub power-on-forgets : (c : Chip) → chipAfter PowerOn c ≡ powerOn
+unfolding powerOn
+power-on-forgets c = simp and-zero-r
+
+-- every reset of every record is sound
+pub reset-sound : (k : Reset) (c : Chip) → soundChip (chipAfter k c) ≡ true
+unfolding soundChip
+reset-sound PowerOn c = simp and-zero-r
+reset-sound ChipReset c = simp (and-zero-r, masked-lacks 0xfc 0 (c .registers .usbctl) 0x03 refl refl)
+reset-sound BusReset c = simp (and-zero-r, masked-lacks 0xfc 0 (c .registers .usbctl) 0x03 refl refl, masked-lacks 0x01 0 (c .registers .cpuctl) 0xfe refl refl)
+
+pub power-on-sound : soundChip powerOn ≡ true
+unfolding soundChip powerOn
+power-on-sound = refl
+
+-- nothing waits
+pub reset-empties : (k : Reset) (c : Chip)
+    → (queue 2 (chipAfter k c .ep1 .ring) ≡ []) × (queue 2 (chipAfter k c .ep2 .ring) ≡ []) × (chipAfter k c .ep0 .armed ≡ false) × (chipAfter k c .ep3 .armed ≡ false)
+reset-empties PowerOn c = (refl, refl, refl, refl)
+reset-empties ChipReset c = (refl, refl, refl, refl)
+reset-empties BusReset c = (refl, refl, refl, refl)
+
+-- buffer bytes become 0 at power-on and chip reset
+pub record Wiped (c : Chip) : Type 0 where
+  pub ep0 : c .ep0 .bytes ≡ replicate 64 0
+  pub ep1 : c .ep1 .ring .bytes ≡ replicate 128 0
+  pub ep2 : c .ep2 .ring .bytes ≡ replicate 128 0
+  pub ep3 : c .ep3 .bytes ≡ replicate 64 0
+
+pub reset-wipes : (k : Reset) (c : Chip) → wipes k ≡ true → Wiped (chipAfter k c)
+reset-wipes k c h = record { ep0 = rw h; ep1 = rw h; ep2 = rw h; ep3 = rw h }
+
+-- and stay at a bus reset
+pub bus-reset-keeps : (c : Chip)
+    → (chipAfter BusReset c .ep0 .bytes ≡ c .ep0 .bytes) × (chipAfter BusReset c .ep1 .ring .bytes ≡ c .ep1 .ring .bytes)
+    × (chipAfter BusReset c .ep2 .ring .bytes ≡ c .ep2 .ring .bytes) × (chipAfter BusReset c .ep3 .bytes ≡ c .ep3 .bytes)
+bus-reset-keeps c = (refl, refl, refl, refl)
+
+-- but SUDFIFO, which becomes 0 at all three (decision 1)
+pub reset-clears-setup : (k : Reset) (c : Chip) → chipAfter k c .ep0 .setup ≡ replicate 8 0
+reset-clears-setup k c = refl
