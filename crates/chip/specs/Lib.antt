@@ -1,4 +1,5 @@
 pub mod Mask
 pub mod Record
+pub mod Set
 pub mod Sound
 pub mod Pin

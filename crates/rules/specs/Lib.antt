@@ -1,0 +1,9 @@
+pub mod Write
+pub mod Read
+pub mod Transfer
+pub mod Transaction
+pub mod Event
+pub mod Call
+pub mod Ledger
+pub mod Demand
+pub mod Bench

@@ -1,0 +1,46 @@
+// The meaning of the whole chip: definitions and theorems, no functions. The types below are those that the code above
+// shares with the definitions.
+
+// An event of the bus side. Fields that an event does not use are ignored.
+pub struct Event {
+    // 1 power-on, 2 oscillator stable, 3 VBUS on, 4 VBUS off, 5 input pins, 6 bus reset start, 7 bus reset end,
+    // 8 suspend, 9 activity, 10 SETUP, 11 OUT, 12 IN.
+    pub code: u8,
+    // Event 5: the input pins, low four bits.
+    pub pins: u8,
+    // SETUP, OUT, IN.
+    pub address: u8,
+    pub endpoint: u8,
+    // SETUP, OUT: the packet is damaged.
+    pub damaged: bool,
+    // OUT: the packet is a DATA1.
+    pub data1: bool,
+    // IN: the host's ACK reaches the chip.
+    pub acknowledged: bool,
+}
+
+// What the chip decides on an OUT that it hears.
+pub enum OutVerdict {
+    // The endpoint is disabled.
+    Silent,
+    Stall,
+    // There is no room, or the status stage is not to be acknowledged yet.
+    Nak,
+    // The wrong toggle: acknowledged and dropped.
+    Drop,
+    Store,
+    // A status stage is acknowledged.
+    Status,
+}
+
+// What the chip decides on an IN that it hears.
+pub enum InVerdict {
+    // The endpoint is disabled.
+    Silent,
+    Stall,
+    // Nothing is armed, or the status stage is not to be acknowledged yet.
+    Nak,
+    Send,
+    // A status stage is answered by an empty DATA1.
+    Status,
+}
