@@ -3,9 +3,10 @@
 use mathlib.Core.Path.{_≡_, refl, sym, ap, _∙_, subst}
 use mathlib.Core.Bool.{Bool, true, false, cond}
 use Prim.Native.Nat.{ℕ, zero, suc, _+_, _-_, _*_, _/_, _%_, _^_, min, max, _<_, _≤_}
-use native.Mathlib.Nat.{div-one, div-div-eq-div-mul, mul-comm, pow-suc, zero-div}
+use native.Mathlib.Nat.{div-one, div-div-eq-div-mul, div-eq-of-lt, lt-of-lt-of-le, mul-comm, pow-suc}
 use native.Mathlib.Omega.{arith}
 use lib.Arith.{bin-ind}
+use lib.Pow.{pow-mono}
 use lib.Dec.{eqb}
 use lib.Bits.{bitAnd, bitOr, and-step, or-step, and-shr, or-shr}
 use Rattle.bits.specs.Bit.{bit, stored, masked}
@@ -63,6 +64,10 @@ same-bits =
 pub bit-ext : (a b : ℕ) → ((k : ℕ) → bit a k ≡ bit b k) → a ≡ b
 unfolding SameBits
 bit-ext a b h = same-bits a b h
+
+-- a number of w binary digits has no bit from w on
+pub bit-high : (w x k : ℕ) → x < 2 ^ w → w ≤ k → bit x k ≡ 0
+bit-high w x k h l = ap (λ (n : ℕ). n % 2) (div-eq-of-lt (lt-of-lt-of-le h (pow-mono l)))
 
 -- ---- the complement of a number of w binary digits
 

@@ -1,9 +1,12 @@
 -- How a test is taken apart: `cond` on one side, the same test on both sides, a ladder of rules of which the first
 -- that applies decides, and a conjunction. Assumes nothing.
 use mathlib.Core.Path.{_≡_, refl, sym, subst}
-use mathlib.Core.Bool.{Bool, true, false, not, cond, _&&_, Bool·beq}
-use Prim.Native.Nat.{ℕ, _<_}
+use mathlib.Core.Bool.{Bool, true, false, cond, _&&_, Bool·beq}
+use mathlib.Core.List.{List, [], _∷_}
+use Prim.Native.Nat.{ℕ, zero, suc, _<_}
 use native.Mathlib.Omega.{arith}
+use lib.ListN.{getD}
+use Rattle.bits.specs.Clauses.{joined, clauses}
 
 -- ---- a choice
 
@@ -46,8 +49,22 @@ pub and-true : (a b : Bool) → (a && b) ≡ true → (a ≡ true) × (b ≡ tru
 and-true true b e = (refl, e)
 and-true false b e = (e, cc)
 
-pub true-and-true : (a b : Bool) → a ≡ true → b ≡ true → (a && b) ≡ true
-true-and-true a b p q = cc
+-- every clause of a list that holds, by its place
+joined-at : (a : Bool) (bs : List Bool) → joined a bs ≡ true → (a ≡ true) × ((i : ℕ) → getD bs i true ≡ true)
+joined-at a [] h = (h, λ i. refl)
+joined-at a (b ∷ bs) h =
+    let rest = joined-at (a && b) bs h in
+    let both = and-true a b (rest .0) in
+    (both .0, λ i. at (both .1) (rest .1) i)
+  where
+    at : b ≡ true → ((i : ℕ) → getD bs i true ≡ true) → (i : ℕ) → getD (b ∷ bs) i true ≡ true
+    at p q zero = p
+    at p q (suc i) = q i
+
+pub clause-at : (bs : List Bool) → clauses bs ≡ true → (i : ℕ) → getD bs i true ≡ true
+clause-at [] h i = refl
+clause-at (b ∷ bs) h zero = joined-at b bs h .0
+clause-at (b ∷ bs) h (suc i) = joined-at b bs h .1 i
 
 pub beq-eq : (a b : Bool) → Bool·beq a b ≡ true → a ≡ b
 beq-eq true true e = refl

@@ -6,13 +6,14 @@ use mathlib.Core.Bool.{Bool, true, false, not, cond, _||_}
 use Prim.Native.Nat.{ℕ, zero, suc, _+_, _-_, _*_, _/_, _%_, _^_, min, max, _<_, _≤_}
 use native.Mathlib.Nat.{lt-of-le-of-lt, zero-mul, one-mul, pow-suc, add-comm}
 use native.Mathlib.Numerals.{add-one}
+use native.Mathlib.Decide.{decLt}
 use native.Mathlib.Omega.{arith}
 use lib.Dec.{eqb}
 use lib.Pow.{pow-pos}
 use lib.Bits.{bitAnd, bitOr, and-comm, and-zero-r, or-zero-r, and-le-r, or-lt, or-add-and, and-le-l, and-high}
 use borrow.Author.Tests.{eqb-true, eq-eqb, ne-eqb, not-false}
-use Rattle.bits.specs.Bit.{bit, lacks, has, stored, masked}
-use Rattle.bits.proofs.Bit.{bit-and, bit-or, bit-ext}
+use Rattle.bits.specs.Bit.{bit, lacks, has, lowered, stored, masked}
+use Rattle.bits.proofs.Bit.{bit-lt, bit-and, bit-or, bit-ext, bit-high, bit-complement}
 
 -- ---- conjunction and disjunction
 
@@ -29,6 +30,10 @@ has-none x = ap (λ (n : ℕ). not (eqb n 0)) (and-zero-r x)
 
 pub has-and : (x m p : ℕ) → has (bitAnd x m) p ≡ has x (bitAnd m p)
 has-and x m p = ap (λ (n : ℕ). not (eqb n 0)) (and-assoc x m p)
+
+-- none of a mask outside m; the last argument is refl at numerals
+pub has-and-none : (x m p : ℕ) → bitAnd m p ≡ 0 → has (bitAnd x m) p ≡ false
+has-and-none x m p e = has-and x m p ∙ ap (has x) e ∙ has-none x
 
 -- a sum is 0 only where both parts are
 nonzero-or : (a b : ℕ) → not (eqb (bitOr a b) 0) ≡ (not (eqb b 0) || not (eqb a 0))
@@ -53,6 +58,26 @@ has-stored-same m false x h d = has-and x (255 - m) m ∙ ap (has x) d ∙ has-n
 pub has-stored-other : (m : ℕ) (b : Bool) (x p : ℕ) → has m p ≡ false → bitAnd (255 - m) p ≡ p → has (stored m b x) p ≡ has x p
 has-stored-other m true x p h d = has-or x m p ∙ ap (λ (t : Bool). t || has x p) h
 has-stored-other m false x p h d = has-and x (255 - m) p ∙ ap (has x) d
+
+-- the complement of a byte has the bits of every mask apart from it
+complement-apart : (m q p : ℕ) → q < 256 → p < 256 → bitAnd q p ≡ 0 → bitAnd (255 - bitAnd m q) p ≡ p
+complement-apart m q p hq hp apart = bit-ext (bitAnd (255 - bitAnd m q) p) p same
+  where
+    small : bitAnd m q < 2 ^ 8
+    small = lt-of-le-of-lt (and-le-r m q) hq
+
+    none : (k : ℕ) → min (bit q k) (bit p k) ≡ 0
+    none k = sym (bit-and q p k) ∙ ap (λ (n : ℕ). bit n k) apart ∙ bit-high 0 0 k (omega arith) (omega arith)
+
+    same : (k : ℕ) → bit (bitAnd (255 - bitAnd m q) p) k ≡ bit p k
+    same k = elim (decLt k 8) [
+      | yes l ↦ bit-and (255 - bitAnd m q) p k ∙ omega (arith, bit-complement 8 k (bitAnd m q) small l, bit-and m q k, none k, bit-lt p k)
+      | no g ↦ bit-and (255 - bitAnd m q) p k ∙ omega (arith, bit-high 8 p k hp (omega arith))
+    ]
+
+-- bits of m within q are lowered: a mask apart from q stays
+pub has-lowered-apart : (m q x p : ℕ) → q < 256 → p < 256 → bitAnd q p ≡ 0 → has (lowered (bitAnd m q) x) p ≡ has x p
+has-lowered-apart m q x p hq hp apart = has-and x (255 - bitAnd m q) p ∙ ap (has x) (complement-apart m q p hq hp apart)
 
 -- bits that are 0 stay 0 within any mask
 pub has-narrow : (x m p : ℕ) → has x p ≡ false → has x (bitAnd m p) ≡ false

@@ -2,12 +2,13 @@
 -- of it. The record has two buffers (endpoints 1 and 2); a single buffer is a ring of one. Document 01: "endpoint 2's
 -- buffers, like endpoint 1's, serve in turn"; 000 pages 13, 42.
 -- Assumes nothing.
-use mathlib.Core.Bool.{Bool, cond, _&&_}
+use mathlib.Core.Bool.{Bool, cond}
 use mathlib.Core.List.{List, [], _∷_}
 use Prim.Native.Nat.{ℕ, zero, suc, _+_, _-_, _*_, _%_}
 use lib.Dec.{eqb, ltb, leb}
 use lib.ListN.{length, getD, set, take, drop, replicate}
 use lib.Seq.{sets}
+use Rattle.bits.specs.Clauses.{clauses}
 use Rattle.ring.specs.declared.Ring.{Ring}
 
 -- ---- what waits
@@ -85,4 +86,4 @@ releaseOldest n r = cond (eqb (r .waiting) 0) r (withoutOldest n r)
 
 -- both counts are 0..64, the oldest is one of the two buffers, 0..2 wait
 abbrev pub soundRing : Ring → Bool
-soundRing r = ((leb (getD (r .counts) 0 0) 64 && leb (getD (r .counts) 1 0) 64) && ltb (r .oldest) 2) && leb (r .waiting) 2
+soundRing r = clauses (leb (getD (r .counts) 0 0) 64 ∷ leb (getD (r .counts) 1 0) 64 ∷ ltb (r .oldest) 2 ∷ leb (r .waiting) 2 ∷ [])

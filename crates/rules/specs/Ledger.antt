@@ -178,8 +178,7 @@ isAck (sent t vs) = false
 
 abbrev pub noteOut : LedgerEvent
 noteOut l e vs a =
-    cond (eqb (e .endpoint) 1)
-    (cond (Bool·beq (e .data1) (l .receiver .toggle) && isAck a) (setReceiver (receiverStored (l .receiver) vs) l) l) l
+    cond (isAck a) (cond (eqb (e .endpoint) 1) (cond (Bool·beq (e .data1) (l .receiver .toggle)) (setReceiver (receiverStored (l .receiver) vs) l) l) l) l
 
 -- IN at endpoint 2 answered with data, its ACK arriving: the reply's bytes join acknowledged
 abbrev pub senderAcknowledged : Sender → List ℕ → Sender

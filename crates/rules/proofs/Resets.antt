@@ -1,0 +1,86 @@
+-- A reset of the record and of the ledger keeps the agreement. Assumes nothing.
+use mathlib.Core.Path.{_≡_, refl, sym, ap, _∙_, subst}
+use mathlib.Core.Bool.{false}
+use mathlib.Core.List.{List}
+use Prim.Native.Nat.{ℕ, _*_, _≤_}
+use native.Mathlib.Omega.{arith}
+use lib.Dec.{ltb}
+use lib.ListN.{length}
+use Rattle.bits.specs.Bit.{has}
+use Rattle.ring.specs.declared.Ring.{Ring}
+use Rattle.ring.specs.Ring.{drained, withBytes}
+use Rattle.ring.proofs.Laws.{Fits, fits-drained}
+use Rattle.chip.specs.declared.Chip.{Chip}
+use Rattle.chip.specs.Mask.{in2bavirq, out1davirq}
+use Rattle.chip.proofs.Sound.{Sound, sound-clauses}
+use Rattle.reset.specs.declared.Reset.{Reset}
+use Rattle.reset.specs.declared.Reset.the-variants.{PowerOn, ChipReset, BusReset}
+use Rattle.reset.specs.Reset.{bytesAfter, ringAfter, chipAfter}
+use Rattle.reset.proofs.Effects.{reset-sound}
+use Rattle.rules.specs.Ledger.{Ledger, lineAfter, ledgerAfter}
+use Rattle.rules.proofs.Agree.{Sends, Receives, SendsOf, ReceivesOf, Agree}
+
+-- a ring after a reset: drained, its bytes by the rule for bytes
+ring-after : (k : Reset) (r : Ring) → drained (withBytes r (bytesAfter k 128 (r .bytes))) ≡ ringAfter k r
+ring-after PowerOn r = refl
+ring-after ChipReset r = refl
+ring-after BusReset r = refl
+
+bytes-after-length : (k : Reset) (s : List ℕ) → 2 * 64 ≤ length s → 2 * 64 ≤ length (bytesAfter k 128 s)
+bytes-after-length PowerOn s h = omega arith
+bytes-after-length ChipReset s h = omega arith
+bytes-after-length BusReset s h = h
+
+fits-after : (k : Reset) (r : Ring) → Fits 2 r → Fits 2 (drained (withBytes r (bytesAfter k 128 (r .bytes))))
+fits-after k r h = fits-drained r (bytesAfter k 128 (r .bytes)) (bytes-after-length k (r .bytes) (h .room))
+
+module _ (k : Reset) (l : Ledger) (c : Chip) (i : Agree l c) where
+  -- every clause of soundness holds after a reset
+  clauses : Sound (chipAfter k c)
+  clauses = sound-clauses (chipAfter k c) (reset-sound k c)
+
+  sends : SendsOf (ledgerAfter k l) (chipAfter k c)
+  sends =
+      subst (λ (r : Ring). Sends (ledgerAfter k l .sender) r 0 (chipAfter k c .ep2 .count) (has (chipAfter k c .registers .epirq) in2bavirq))
+      (ring-after k (c .ep2 .ring))
+      (record {
+        fits = fits-after k (c .ep2 .ring) (i .0 .fits);
+        queued = refl;
+        bytes = ap (bytesAfter k 128) (i .0 .bytes);
+        turn = refl;
+        place = refl;
+        within = omega arith;
+        counted = clauses .count2;
+        request = clauses .in2bav ∙ ap (λ (r : Ring). ltb (r .waiting) 2) (sym (ring-after k (c .ep2 .ring)));
+      })
+
+  receives : ReceivesOf (ledgerAfter k l) (chipAfter k c)
+  receives =
+      subst (λ (r : Ring). Receives (ledgerAfter k l .receiver) r 0 false (has (chipAfter k c .registers .epirq) out1davirq))
+      (ring-after k (c .ep1 .ring))
+      (record {
+        fits = fits-after k (c .ep1 .ring) (i .1 .fits);
+        queued = refl;
+        toggles = refl;
+        within = omega arith;
+        request = clauses .out1dav ∙ ap (λ (r : Ring). ltb 0 (r .waiting)) (sym (ring-after k (c .ep1 .ring)));
+      })
+
+  pub agree-reset : Agree (ledgerAfter k l) (chipAfter k c)
+  agree-reset =
+      let s = clauses in (
+        sends,
+        receives,
+        ap (lineAfter k) (i .2),
+        record { counted = s .count0; reads = s .readpos0; writes = s .writepos0; setup = s .setuppos },
+        record { counted = s .count3; within = s .writepos3; request = s .in3bav },
+        record {
+          stalls = s .epstalls;
+          toggles = s .clrtogs;
+          requests = s .epirq;
+          enables = s .epien;
+          control = s .usbctl;
+          cpu = s .cpuctl;
+          address = s .fnaddr;
+        },
+      )
