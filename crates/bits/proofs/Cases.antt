@@ -1,7 +1,7 @@
 -- How a test is taken apart: `cond` on one side, the same test on both sides, a ladder of rules of which the first
 -- that applies decides, and a conjunction. Assumes nothing.
 use mathlib.Core.Path.{_≡_, refl, sym, subst}
-use mathlib.Core.Bool.{Bool, true, false, cond, _&&_, Bool·beq}
+use mathlib.Core.Bool.{Bool, true, false, cond, _&&_, _||_, Bool·beq}
 use mathlib.Core.List.{List, [], _∷_}
 use Prim.Native.Nat.{ℕ, zero, suc, _<_}
 use native.Mathlib.Omega.{arith}
@@ -48,6 +48,10 @@ ladder-none false k x h e = (refl, e)
 pub and-true : (a b : Bool) → (a && b) ≡ true → (a ≡ true) × (b ≡ true)
 and-true true b e = (refl, e)
 and-true false b e = (e, cc)
+
+pub or-false : (a b : Bool) → (a || b) ≡ false → (a ≡ false) × (b ≡ false)
+or-false true b e = (e, cc)
+or-false false b e = (refl, e)
 
 -- every clause of a list that holds, by its place
 joined-at : (a : Bool) (bs : List Bool) → joined a bs ≡ true → (a ≡ true) × ((i : ℕ) → getD bs i true ≡ true)

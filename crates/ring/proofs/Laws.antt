@@ -175,6 +175,12 @@ module _ (n : ℕ) (r : Ring) where
       cond-elim (Fits n) (eqb (r .waiting) 0) (λ _. fits)
       (λ _. record { room = fits .room; places = fits .places; sizes = fits .sizes; turn = mod-lt (r .oldest + 1) (omega (arith, fits .turn)); most = omega (arith, fits .most) })
 
+-- the oldest packet has at most 64 bytes
+pub fits-oldest : (n : ℕ) (r : Ring) → Fits n r → oldestCount n r ≤ 64
+fits-oldest n r fits =
+    cond-elim (λ (c : ℕ). c ≤ 64) (eqb (r .waiting) 0) (λ _. omega arith)
+    (λ _. fits .sizes (r .oldest % n) (mod-lt (r .oldest) (omega (arith, fits .turn))))
+
 -- ---- a ring of two
 
 no-count : (i : ℕ) → i < 2 → getD (replicate 2 0) i 0 ≤ 64

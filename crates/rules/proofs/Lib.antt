@@ -3,3 +3,7 @@ pub mod Agree
 pub mod Requests
 pub mod Resets
 pub mod Writes
+pub mod Reading
+pub mod Events
+pub mod Tables
+pub mod Theorem

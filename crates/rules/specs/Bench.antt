@@ -11,8 +11,8 @@ use Rattle.chip.specs.declared.PinAnswer.the-variants.{Level}
 use Rattle.chip.specs.Record.{powerOn}
 use Rattle.chip.specs.Pin.{pinAnswer}
 use Rattle.rules.specs.declared.Event.{Event}
-use Rattle.rules.specs.Transaction.{Answer, replied, done, silence, ack, nak, stall, sent}
-use Rattle.rules.specs.Call.{Call, transfer, event, answerOf, afterOf}
+use Rattle.rules.specs.Transaction.{Reply, transferred, done, silence, ack, nak, stall, sent}
+use Rattle.rules.specs.Call.{Call, transfer, event, Answer, answered, answerOf, afterOf}
 use Rattle.rules.specs.Demand.{chip3420}
 
 pub record Step : Type 0 where
@@ -34,27 +34,27 @@ played ss = playedFrom powerOn ss
 
 -- a transfer and its reply, lent as many bytes as it may have; in edge mode the inactive pin is high
 abbrev pub spi : List ℕ → List ℕ → Step
-spi bytes reply = record { call = transfer bytes 4096; answer = replied reply; pin = Level High }
+spi bytes reply = record { call = transfer bytes 4096; answer = answered (transferred reply); pin = Level High }
 
 abbrev pub plain : ℕ → Event
 plain code = record { code = code; pins = 0; address = 0; endpoint = 0; damaged = false; data1 = false; acknowledged = false }
 
 abbrev pub signals : ℕ → Step
-signals code = record { call = event (plain code) [] 0; answer = done; pin = Level High }
+signals code = record { call = event (plain code) [] 0; answer = answered done; pin = Level High }
 
 -- OUT to an endpoint, DATA1 where true
-abbrev pub out : ℕ → Bool → List ℕ → Answer → Step
+abbrev pub out : ℕ → Bool → List ℕ → Reply → Step
 out endpoint toggle vs a = record {
   call = event (record { code = 11; pins = 0; address = 0; endpoint = endpoint; damaged = false; data1 = toggle; acknowledged = false }) vs 0;
-  answer = a;
+  answer = answered a;
   pin = Level High;
 }
 
 -- IN to an endpoint, whose ACK arrives where true
-abbrev pub «in» : ℕ → Bool → Answer → Step
+abbrev pub «in» : ℕ → Bool → Reply → Step
 «in» endpoint arrives a = record {
   call = event (record { code = 12; pins = 0; address = 0; endpoint = endpoint; damaged = false; data1 = false; acknowledged = arrives }) [] 64;
-  answer = a;
+  answer = answered a;
   pin = Level High;
 }
 
@@ -109,7 +109,7 @@ abbrev pub pinned : PinAnswer → Step → Step
 pinned p s = record { call = s .call; answer = s .answer; pin = p }
 
 abbrev pub setup : List ℕ → Step
-setup vs = record { call = event (plain 10) vs 0; answer = ack; pin = Level High }
+setup vs = record { call = event (plain 10) vs 0; answer = answered ack; pin = Level High }
 
 abbrev pub case8 : List Step
 case8 =

@@ -9,13 +9,18 @@ use Rattle.chip.specs.declared.Chip.{Chip}
 use Rattle.chip.specs.Sound.{soundChip}
 use Rattle.rules.specs.declared.Event.{Event}
 use Rattle.rules.specs.Transfer.{Family, transferTo, transferReply}
-use Rattle.rules.specs.Transaction.{Answer, refused, replied}
+use Rattle.rules.specs.Transaction.{Reply, transferred}
 use Rattle.rules.specs.Event.{EventRule, noEvent}
 
 -- a transfer with its bytes, or an event with its payload; each with the number of bytes lent for the reply
 pub data Call : Type 0 where
   transfer : (bytes : List ℕ) (room : ℕ) → Call
   event : (e : Event) (payload : List ℕ) (room : ℕ) → Call
+
+-- its answer: a refusal's number, or the reply
+pub data Answer : Type 0 where
+  refused : ℕ → Answer
+  answered : Reply → Answer
 
 -- ---- refusals: the lowest number that applies is given
 
@@ -70,16 +75,16 @@ module _ (m : Model) where
   act c (transfer bytes room) = transferTo (m .spi) c bytes
   act c (event e payload room) = getD (m .bus) (e .code) noEvent .effect c e payload
 
-  abbrev pub reply : Chip → Call → Answer
-  reply c (transfer bytes room) = replied (transferReply (m .spi) c bytes)
-  reply c (event e payload room) = getD (m .bus) (e .code) noEvent .answer c e payload
+  abbrev pub replyOf : Chip → Call → Reply
+  replyOf c (transfer bytes room) = transferred (transferReply (m .spi) c bytes)
+  replyOf c (event e payload room) = getD (m .bus) (e .code) noEvent .reply c e payload
 
   -- a refused call changes nothing
   unfoldable pub afterOf : Chip → Call → Chip
   afterOf c k = cond (eqb (refusal c k) 0) (act c k) c
 
   unfoldable pub answerOf : Chip → Call → Answer
-  answerOf c k = cond (eqb (refusal c k) 0) (reply c k) (refused (refusal c k))
+  answerOf c k = cond (eqb (refusal c k) 0) (answered (replyOf c k)) (refused (refusal c k))
 
   -- ---- a list of calls, each given the record that the one before returned
 

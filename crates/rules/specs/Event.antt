@@ -13,16 +13,16 @@ use Rattle.chip.specs.Set.{setVbus, setOscok, setUsbirq, setIopins}
 use Rattle.reset.specs.declared.Reset.the-variants.{PowerOn, BusReset}
 use Rattle.reset.specs.Reset.{chipAfter}
 use Rattle.rules.specs.declared.Event.{Event}
-use Rattle.rules.specs.Transaction.{Answer, done, silence, ack, lineOf, seen, heard, setupAccepted, setupTo, out0Verdict, out1Verdict, out0To, out1To, outAnswer, in0Verdict, in2Verdict, in3Verdict, in0To, in2To, in3To, in0Answer, in2Answer, in3Answer}
+use Rattle.rules.specs.Transaction.{Reply, done, silence, ack, lineOf, seen, heard, setupAccepted, setupTo, out0Verdict, out1Verdict, out0To, out1To, out0Reply, out1Reply, in0Verdict, in2Verdict, in3Verdict, in0To, in2To, in3To, in0Reply, in2Reply, in3Reply}
 
--- what an event does to the record, and its answer; the list is its payload
+-- what an event does to the record, and its reply; the list is its payload
 pub record EventRule : Type 0 where
   pub effect : Chip → Event → List ℕ → Chip
-  pub answer : Chip → Event → List ℕ → Answer
+  pub reply : Chip → Event → List ℕ → Reply
 
--- events 1 to 9 are answered alike
+-- events 1 to 9 are replied to alike
 abbrev pub signal : (Chip → Event → Chip) → EventRule
-signal f = record { effect = λ c e vs. f c e; answer = λ c e vs. done }
+signal f = record { effect = λ c e vs. f c e; reply = λ c e vs. done }
 
 -- a request bit of R13 becomes 1
 abbrev pub requests : ℕ → Chip → Chip
@@ -69,7 +69,7 @@ activityEvent = signal (λ c e. whenSeen (requests busactirq) c)
 abbrev pub setupEvent : EventRule
 setupEvent = record {
   effect = λ c e vs. cond (setupAccepted c e) (setupTo c vs) c;
-  answer = λ c e vs. cond (setupAccepted c e) ack silence;
+  reply = λ c e vs. cond (setupAccepted c e) ack silence;
 }
 
 -- 11: OUT, to endpoint 0 or 1
@@ -79,10 +79,10 @@ outEvent = record {
       cond (heard c (e .damaged) (e .address))
       (cond (eqb (e .endpoint) 0) (out0To c vs (out0Verdict c (e .data1) (length vs)))
       (cond (eqb (e .endpoint) 1) (out1To c vs (out1Verdict c (e .data1))) c)) c;
-  answer = λ c e vs.
+  reply = λ c e vs.
       cond (heard c (e .damaged) (e .address))
-      (cond (eqb (e .endpoint) 0) (outAnswer (out0Verdict c (e .data1) (length vs)))
-      (cond (eqb (e .endpoint) 1) (outAnswer (out1Verdict c (e .data1))) silence)) silence;
+      (cond (eqb (e .endpoint) 0) (out0Reply (out0Verdict c (e .data1) (length vs)))
+      (cond (eqb (e .endpoint) 1) (out1Reply (out1Verdict c (e .data1))) silence)) silence;
 }
 
 -- 12: IN, to endpoint 0, 2 or 3
@@ -93,11 +93,11 @@ inEvent = record {
       (cond (eqb (e .endpoint) 0) (in0To c (e .acknowledged) (in0Verdict c))
       (cond (eqb (e .endpoint) 2) (in2To c (e .acknowledged) (in2Verdict c))
       (cond (eqb (e .endpoint) 3) (in3To c (e .acknowledged) (in3Verdict c)) c))) c;
-  answer = λ c e vs.
+  reply = λ c e vs.
       cond (heard c false (e .address))
-      (cond (eqb (e .endpoint) 0) (in0Answer c)
-      (cond (eqb (e .endpoint) 2) (in2Answer c)
-      (cond (eqb (e .endpoint) 3) (in3Answer c) silence))) silence;
+      (cond (eqb (e .endpoint) 0) (in0Reply c (in0Verdict c))
+      (cond (eqb (e .endpoint) 2) (in2Reply c (in2Verdict c))
+      (cond (eqb (e .endpoint) 3) (in3Reply c (in3Verdict c)) silence))) silence;
 }
 
 -- no event has code 0, or one above 12

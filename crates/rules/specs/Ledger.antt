@@ -16,8 +16,8 @@ use Rattle.reset.specs.Table.{registerAfter}
 use Rattle.reset.specs.Reset.{bytesAfter, vbusAfter, oscokAfter}
 use Rattle.rules.specs.declared.Event.{Event}
 use Rattle.rules.specs.Transfer.{stepRegister, commandRegister, commandWrites}
-use Rattle.rules.specs.Transaction.{Answer, refused, replied, done, silence, ack, nak, stall, sent, Line, seen}
-use Rattle.rules.specs.Call.{Call, transfer, event, Entry}
+use Rattle.rules.specs.Transaction.{Reply, transferred, done, silence, ack, nak, stall, sent, Line, seen}
+use Rattle.rules.specs.Call.{Call, transfer, event, Answer, refused, answered, Entry}
 
 -- endpoint 2: the lists, its buffers, the next to be armed and the write position
 pub record Sender : Type 0 where
@@ -144,7 +144,7 @@ ledgerWrites =
 -- ---- events
 
 abbrev pub LedgerEvent : Type 0
-LedgerEvent = Ledger → Event → List ℕ → Answer → Ledger
+LedgerEvent = Ledger → Event → List ℕ → Reply → Ledger
 
 abbrev pub unseen : LedgerEvent
 unseen l e vs a = l
@@ -166,9 +166,8 @@ noteResetStart l e vs a = cond (seen (l .line)) (ledgerAfter BusReset l) l
 abbrev pub receiverStored : Receiver → List ℕ → Receiver
 receiverStored r vs = record { stored = r .stored ++ (vs ∷ []); released = r .released; toggle = not (r .toggle) }
 
-abbrev pub isAck : Answer → Bool
-isAck (refused n) = false
-isAck (replied vs) = false
+abbrev pub isAck : Reply → Bool
+isAck (transferred vs) = false
 isAck done = false
 isAck silence = false
 isAck ack = true
@@ -185,9 +184,8 @@ abbrev pub senderAcknowledged : Sender → List ℕ → Sender
 senderAcknowledged s vs = record
     { armed = s .armed; acknowledged = s .acknowledged ++ (vs ∷ []); bytes = s .bytes; turn = s .turn; writepos = s .writepos }
 
-abbrev pub acknowledges : Ledger → Answer → Ledger
-acknowledges l (refused n) = l
-acknowledges l (replied vs) = l
+abbrev pub acknowledges : Ledger → Reply → Ledger
+acknowledges l (transferred vs) = l
 acknowledges l done = l
 acknowledges l silence = l
 acknowledges l ack = l
@@ -213,16 +211,6 @@ pub record Reader : Type 0 where
 abbrev pub max3420eReader : Reader
 max3420eReader = record { writes = ledgerWrites; step = stepRegister; events = ledgerEvents }
 
-abbrev pub isRefused : Answer → Bool
-isRefused (refused n) = true
-isRefused (replied vs) = false
-isRefused done = false
-isRefused silence = false
-isRefused ack = false
-isRefused nak = false
-isRefused stall = false
-isRefused (sent t vs) = false
-
 module _ (q : Reader) where
   abbrev pub notesWrites : Ledger → ℕ → List ℕ → Ledger
   notesWrites l n [] = l
@@ -232,14 +220,15 @@ module _ (q : Reader) where
   notesTransfer l [] = l
   notesTransfer l (m ∷ bs) = cond (commandWrites m) (notesWrites l (commandRegister m) bs) l
 
-  -- an accepted call with its answer
-  abbrev pub notesCall : Ledger → Call → Answer → Ledger
+  -- an accepted call with its reply
+  abbrev pub notesCall : Ledger → Call → Reply → Ledger
   notesCall l (transfer bytes room) a = notesTransfer l bytes
   notesCall l (event e payload room) a = getD (q .events) (e .code) unseen l e payload a
 
   -- a refused call leaves the ledger alone
   unfoldable pub note : Ledger → Call → Answer → Ledger
-  note l k a = cond (isRefused a) l (notesCall l k a)
+  note l k (refused n) = l
+  note l k (answered a) = notesCall l k a
 
   unfoldable pub ledger : Ledger → List Entry → Ledger
   ledger l [] = l

@@ -19,10 +19,8 @@ pub struct Event {
     pub acknowledged: bool,
 }
 
-// What the chip decides on an OUT that it hears.
-pub enum OutVerdict {
-    // The endpoint is disabled.
-    Silent,
+// What endpoint 0 decides on an OUT that it hears.
+pub enum ControlOut {
     Stall,
     // There is no room, or the status stage is not to be acknowledged yet.
     Nak,
@@ -33,14 +31,34 @@ pub enum OutVerdict {
     Status,
 }
 
-// What the chip decides on an IN that it hears.
-pub enum InVerdict {
+// What endpoint 1 decides on an OUT that it hears.
+pub enum DataOut {
     // The endpoint is disabled.
     Silent,
+    Stall,
+    // There is no room.
+    Nak,
+    // The wrong toggle: acknowledged and dropped.
+    Drop,
+    Store,
+}
+
+// What endpoint 0 decides on an IN that it hears.
+pub enum ControlIn {
     Stall,
     // Nothing is armed, or the status stage is not to be acknowledged yet.
     Nak,
     Send,
     // A status stage is answered by an empty DATA1.
     Status,
+}
+
+// What endpoint 2 or 3 decides on an IN that it hears.
+pub enum DataIn {
+    // The endpoint is disabled.
+    Silent,
+    Stall,
+    // Nothing is armed.
+    Nak,
+    Send,
 }
