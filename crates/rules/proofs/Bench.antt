@@ -1,12 +1,18 @@
 -- Every bench case holds of the rules, by computation. Assumes nothing.
 use mathlib.Core.Path.{_≡_, refl}
-use mathlib.Core.List.{map}
+use mathlib.Core.Bool.{false}
+use mathlib.Core.List.{map, _++_}
 use Rattle.chip.specs.Record.{powerOn}
 use Rattle.chip.specs.Sound.{soundChip}
 use Rattle.chip.specs.Pin.{pinAnswer, pinLevel}
 use Rattle.rules.specs.Call.{answerOf, afterOf}
-use Rattle.rules.specs.Bench.{played, cases}
+use Rattle.rules.specs.Bench.{played, cases, on, packetsOf}
 
 pub bench : map played cases ≡ cases
 unfolding powerOn soundChip pinAnswer pinLevel answerOf afterOf
 bench = refl
+
+-- and so does a run of 304 calls
+pub long-run : played (on ++ packetsOf false 100) ≡ on ++ packetsOf false 100
+unfolding powerOn soundChip pinAnswer pinLevel answerOf afterOf
+long-run = refl

@@ -1,8 +1,8 @@
 -- The bench cases of document 01, each a list of calls with its answers and the pin after each, from the power-on record.
 -- Assumes nothing.
-use mathlib.Core.Bool.{Bool, true, false}
+use mathlib.Core.Bool.{Bool, true, false, not}
 use mathlib.Core.List.{List, [], _∷_, _++_}
-use Prim.Native.Nat.{ℕ}
+use Prim.Native.Nat.{ℕ, zero, suc}
 use lib.ListN.{replicate}
 use Rattle.chip.specs.declared.Chip.{Chip}
 use Rattle.chip.specs.declared.Pin.the-variants.{Low, High, Open}
@@ -127,3 +127,9 @@ case9 =
 -- case 10 asks the firmware
 abbrev pub cases : List (List Step)
 cases = case1 ∷ case2 ∷ case3 ∷ case4 ∷ case5 ∷ case6 ∷ case7 ∷ case8 ∷ case9 ∷ []
+
+-- ---- a longer run: n packets, armed and acknowledged one after the other, the toggle alternating from t on
+
+abbrev pub packetsOf : Bool → ℕ → List Step
+packetsOf t zero = []
+packetsOf t (suc n) = armed n ++ («in» 2 true (sent t (n ∷ [])) ∷ []) ++ packetsOf (not t) n
