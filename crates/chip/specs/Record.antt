@@ -5,10 +5,14 @@ use mathlib.Core.List.{List, [], _∷_}
 use Prim.Native.Nat.{ℕ, _-_}
 use lib.ListN.{getD, replicate}
 use Rattle.ring.specs.Ring.{emptyRing, oldestCount}
+use Rattle.chip.specs.declared.Registers.{Registers}
 use Rattle.chip.specs.declared.Chip.{Chip}
 
--- every buffer byte, count, position and register is 0 and every flag off, but that the IN buffers are available:
--- IN0BAVIRQ, IN2BAVIRQ and IN3BAVIRQ are 1 (000 pages 40, 42, 44)
+-- at power-on the IN buffers are available: IN0BAVIRQ, IN2BAVIRQ and IN3BAVIRQ are 1 (000 pages 40, 42, 44), all else 0
+abbrev pub powerOnRegisters : Registers
+powerOnRegisters = record { epstalls = 0; clrtogs = 0; epirq = 0x19; epien = 0; usbirq = 0; usbien = 0; usbctl = 0; cpuctl = 0; pinctl = 0; fnaddr = 0; iopins = 0 }
+
+-- every buffer byte, count and position is 0 and every flag off
 unfoldable pub powerOn : Chip
 powerOn = record {
   ep0 = record {
@@ -26,19 +30,7 @@ powerOn = record {
   ep1 = record { ring = emptyRing; readpos = 0; toggle = false };
   ep2 = record { ring = emptyRing; count = 0; writepos = 0; toggle = false };
   ep3 = record { bytes = replicate 64 0; count = 0; armed = false; writepos = 0; toggle = false };
-  registers = record {
-    epstalls = 0;
-    clrtogs = 0;
-    epirq = 0x19;
-    epien = 0;
-    usbirq = 0;
-    usbien = 0;
-    usbctl = 0;
-    cpuctl = 0;
-    pinctl = 0;
-    fnaddr = 0;
-    iopins = 0;
-  };
+  registers = powerOnRegisters;
   vbus = false;
   oscok = false;
 }

@@ -2,7 +2,7 @@
 use ring::Ring;
 ghost use mathlib.Core.Path.{_≡_};
 ghost use mathlib.Core.Bool.{cond};
-ghost use Rattle.chip.specs.Record.{powerOn};
+ghost use Rattle.chip.specs.Record.{powerOnRegisters, powerOn};
 ghost use Rattle.chip.specs.Sound.{soundEp0, soundEp1, soundEp2, soundEp3, soundRegisters, soundRequests, soundChip};
 ghost use Rattle.chip.specs.Pin.{interruptActive, pinLevel, pinAnswer};
 
@@ -134,6 +134,24 @@ impl Endpoint3 {
 }
 
 impl Registers {
+    fn power_on() -> Self
+        ensures { λ r. ⌜ r ≡ powerOnRegisters ⌝ }
+    {
+        Registers {
+            epstalls: 0,
+            clrtogs: 0,
+            epirq: 0x19,
+            epien: 0,
+            usbirq: 0,
+            usbien: 0,
+            usbctl: 0,
+            cpuctl: 0,
+            pinctl: 0,
+            fnaddr: 0,
+            iopins: 0,
+        }
+    }
+
     // Unused bits are 0.
     fn is_sound(self) -> bool
         ensures { λ r. ⌜ r ≡ soundRegisters self ⌝ }
@@ -233,19 +251,7 @@ impl Chip {
                 writepos: 0,
                 toggle: false,
             },
-            registers: Registers {
-                epstalls: 0,
-                clrtogs: 0,
-                epirq: 0x19,
-                epien: 0,
-                usbirq: 0,
-                usbien: 0,
-                usbctl: 0,
-                cpuctl: 0,
-                pinctl: 0,
-                fnaddr: 0,
-                iopins: 0,
-            },
+            registers: Registers::power_on(),
             vbus: false,
             oscok: false,
         }

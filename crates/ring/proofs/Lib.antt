@@ -3,3 +3,4 @@ pub mod Copy
 pub mod Places
 pub mod Queue
 pub mod Laws
+pub mod Single

@@ -82,6 +82,11 @@ withoutOldest n r = record { bytes = r .bytes; counts = r .counts; oldest = (r .
 abbrev pub releaseOldest : ℕ → Ring → Ring
 releaseOldest n r = cond (eqb (r .waiting) 0) r (withoutOldest n r)
 
+-- ---- a single buffer, armed or not, is a ring of one (endpoints 0 and 3)
+
+abbrev pub single : List ℕ → ℕ → Bool → Ring
+single s c armed = record { bytes = s; counts = c ∷ []; oldest = 0; waiting = cond armed 1 0 }
+
 -- ---- soundness of a ring of two (document 01, "It is sound when")
 
 -- both counts are 0..64, the oldest is one of the two buffers, 0..2 wait

@@ -226,6 +226,13 @@ in0Reply c In0.Status = sent true []
 abbrev pub dataIn : Bool → Bool → Bool → DataIn
 dataIn disabled stalled armed = cond disabled In.Silent (cond stalled In.Stall (cond armed In.Send In.Nak))
 
+-- the record after it, where it is `gone` once the packet has left
+abbrev pub inTo : ℕ → Chip → Chip → Bool → DataIn → Chip
+inTo inak gone c acknowledged In.Silent = c
+inTo inak gone c acknowledged In.Stall = c
+inTo inak gone c acknowledged In.Nak = naked inak c
+inTo inak gone c acknowledged In.Send = cond acknowledged gone c
+
 abbrev pub inReply : Bool → List ℕ → DataIn → Reply
 inReply toggle vs In.Silent = silence
 inReply toggle vs In.Stall = stall
@@ -238,11 +245,11 @@ in2Verdict c = dataIn (has (c .registers .clrtogs) ep2disab) (has (c .registers 
 abbrev pub ep2Gone : Endpoint2 → Endpoint2
 ep2Gone e = record { ring = releaseOldest 2 (e .ring); count = e .count; writepos = e .writepos; toggle = not (e .toggle) }
 
+abbrev pub in2Gone : Chip → Chip
+in2Gone c = setEpirq (raised in2bavirq (c .registers .epirq)) (setEp2 (ep2Gone (c .ep2)) c)
+
 abbrev pub in2To : Chip → Bool → DataIn → Chip
-in2To c acknowledged In.Silent = c
-in2To c acknowledged In.Stall = c
-in2To c acknowledged In.Nak = naked ep2inak c
-in2To c acknowledged In.Send = cond acknowledged (setEpirq (raised in2bavirq (c .registers .epirq)) (setEp2 (ep2Gone (c .ep2)) c)) c
+in2To c acknowledged v = inTo ep2inak (in2Gone c) c acknowledged v
 
 abbrev pub in2Reply : Chip → DataIn → Reply
 in2Reply c v = inReply (c .ep2 .toggle) (oldestPacket 2 (c .ep2 .ring)) v
@@ -253,11 +260,11 @@ in3Verdict c = dataIn (has (c .registers .clrtogs) ep3disab) (has (c .registers 
 abbrev pub ep3Gone : Endpoint3 → Endpoint3
 ep3Gone e = record { bytes = e .bytes; count = e .count; armed = false; writepos = e .writepos; toggle = not (e .toggle) }
 
+abbrev pub in3Gone : Chip → Chip
+in3Gone c = setEpirq (raised in3bavirq (c .registers .epirq)) (setEp3 (ep3Gone (c .ep3)) c)
+
 abbrev pub in3To : Chip → Bool → DataIn → Chip
-in3To c acknowledged In.Silent = c
-in3To c acknowledged In.Stall = c
-in3To c acknowledged In.Nak = naked ep3inak c
-in3To c acknowledged In.Send = cond acknowledged (setEpirq (raised in3bavirq (c .registers .epirq)) (setEp3 (ep3Gone (c .ep3)) c)) c
+in3To c acknowledged v = inTo ep3inak (in3Gone c) c acknowledged v
 
 abbrev pub in3Reply : Chip → DataIn → Reply
 in3Reply c v = inReply (c .ep3 .toggle) (take (c .ep3 .count) (c .ep3 .bytes)) v
