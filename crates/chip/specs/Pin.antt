@@ -1,4 +1,4 @@
--- The INT pin (document 01, last lines of "The bus side"; 000 pages 38, 45, 54), and the numbers of refusal.
+-- The INT pin (document 01, last lines of "The bus side"; 000 pages 38, 45, 54).
 -- Assumes nothing.
 use mathlib.Core.Bool.{Bool, cond, _&&_, _||_}
 use Prim.Native.Nat.{ℕ}
@@ -7,22 +7,11 @@ use Rattle.chip.specs.Mask.{ie, intlevel, posint}
 use Rattle.chip.specs.Sound.{soundChip}
 use Rattle.chip.specs.declared.Registers.{Registers}
 use Rattle.chip.specs.declared.Chip.{Chip}
-use Rattle.chip.specs.declared.Refusal.{Refusal}
-use Rattle.chip.specs.declared.Refusal.the-variants.{Unsound, NoCommand, LongTransfer, ShortBuffer, UnknownEvent, BadPayload, BadAddress}
+use Rattle.refusal.specs.declared.Refusal.the-variants.{Unsound}
 use Rattle.chip.specs.declared.Pin.{Pin}
 use Rattle.chip.specs.declared.Pin.the-variants.{Low, High, Open}
 use Rattle.chip.specs.declared.PinAnswer.{PinAnswer}
 use Rattle.chip.specs.declared.PinAnswer.the-variants.{Refused, Level}
-
--- document 01, "Numbers of refusal"
-abbrev pub refusalNumber : Refusal → ℕ
-refusalNumber Unsound = 1
-refusalNumber NoCommand = 2
-refusalNumber LongTransfer = 3
-refusalNumber ShortBuffer = 4
-refusalNumber UnknownEvent = 5
-refusalNumber BadPayload = 6
-refusalNumber BadAddress = 7
 
 -- the pin's value outside: low, high, open
 abbrev pub pinNumber : Pin → ℕ

@@ -1,4 +1,5 @@
 // The controller's record: its parts, the power-on record, when it is sound, and the INT pin.
+use refusal::Refusal;
 use ring::Ring;
 ghost use mathlib.Core.Path.{_≡_};
 ghost use mathlib.Core.Bool.{cond};
@@ -74,17 +75,6 @@ pub struct Chip {
     pub vbus: bool,
     // The oscillator is stable (000 page 49).
     pub oscok: bool,
-}
-
-// Why a call is refused; `refusalNumber` gives document 01's number.
-pub enum Refusal {
-    Unsound,
-    NoCommand,
-    LongTransfer,
-    ShortBuffer,
-    UnknownEvent,
-    BadPayload,
-    BadAddress,
 }
 
 // The resting level of the INT pin; `pinNumber` gives its value.
