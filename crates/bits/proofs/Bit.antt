@@ -1,8 +1,8 @@
 -- The laws of one bit: of a conjunction, a disjunction, a mask, a stored bit; two numbers with the same bits are equal.
 -- Any number, any mask, any bit. Assumes nothing.
-use mathlib.Core.Path.{_≡_, refl, sym, ap, _∙_, subst}
+use mathlib.Core.Path.{_≡_, refl, sym, ap, _∙_}
 use mathlib.Core.Bool.{Bool, true, false, cond}
-use Prim.Native.Nat.{ℕ, zero, suc, _+_, _-_, _*_, _/_, _%_, _^_, min, max, _<_, _≤_}
+use Prim.Native.Nat.{ℕ, zero, suc, _-_, _*_, _/_, _%_, _^_, min, max, _<_, _≤_}
 use native.Mathlib.Nat.{div-one, div-div-eq-div-mul, div-eq-of-lt, lt-of-lt-of-le, mul-comm, pow-suc}
 use native.Mathlib.Omega.{arith}
 use lib.Arith.{bin-ind}

@@ -3,8 +3,7 @@
 use mathlib.Core.Path.{_≡_, refl, sym, subst}
 use mathlib.Core.Bool.{Bool, true, false, cond, _&&_, _||_, Bool·beq}
 use mathlib.Core.List.{List, [], _∷_}
-use Prim.Native.Nat.{ℕ, zero, suc, _<_}
-use native.Mathlib.Omega.{arith}
+use Prim.Native.Nat.{ℕ, zero, suc}
 use lib.ListN.{getD}
 use Rattle.bits.specs.Clauses.{joined, clauses}
 
@@ -26,11 +25,6 @@ pub cond-same : {A : Type 0} (t : Bool) (x : A) → cond t x x ≡ x
 cond-same true x = refl
 cond-same false x = refl
 
--- a function of a choice is the choice of the function's values
-pub cond-map : {A B : Type 0} (f : A → B) (t : Bool) (x y : A) → f (cond t x y) ≡ cond t (f x) (f y)
-cond-map f true x y = refl
-cond-map f false x y = refl
-
 -- ---- a ladder of rules, the first that applies
 
 -- an outcome that f accepts was not given by a rule whose outcome f does not accept
@@ -38,12 +32,7 @@ pub ladder-later : {A : Type 0} (f : A → Bool) (t : Bool) (x y z : A) → f x 
 ladder-later f true x y z n m e = let w : _≡_ {A = Bool} true false = cc in (w, cc)
 ladder-later f false x y z n m e = (refl, e)
 
--- numbered rules: no number above 0 was given
-pub ladder-none : (t : Bool) (k x : ℕ) → 0 < k → cond t k x ≡ 0 → (t ≡ false) × (x ≡ 0)
-ladder-none true k x h e = absurd (omega arith)
-ladder-none false k x h e = (refl, e)
-
--- ---- conjunction, negation, equality of tests
+-- ---- conjunction, disjunction, equality of tests
 
 pub and-true : (a b : Bool) → (a && b) ≡ true → (a ≡ true) × (b ≡ true)
 and-true true b e = (refl, e)

@@ -1,9 +1,9 @@
 -- The laws of a mask: whether some bit of it is 1 after an operation. Any number, any masks: at numerals the masks on the
 -- right compute, so `has-and x 0xF7 4` says that `x & 0xF7` keeps bit 2 and `has-or x 8 8` that `x | 8` sets bit 3.
 -- Assumes nothing.
-use mathlib.Core.Path.{_≡_, refl, sym, ap, _∙_}
-use mathlib.Core.Bool.{Bool, true, false, not, cond, _||_}
-use Prim.Native.Nat.{ℕ, zero, suc, _+_, _-_, _*_, _/_, _%_, _^_, min, max, _<_, _≤_}
+use mathlib.Core.Path.{_≡_, sym, ap, _∙_}
+use mathlib.Core.Bool.{Bool, true, false, not, _||_}
+use Prim.Native.Nat.{ℕ, zero, suc, _+_, _-_, _*_, _^_, min, _<_}
 use native.Mathlib.Nat.{lt-of-le-of-lt, zero-mul, one-mul, pow-suc, add-comm}
 use native.Mathlib.Numerals.{add-one}
 use native.Mathlib.Decide.{decLt}
@@ -11,7 +11,7 @@ use native.Mathlib.Omega.{arith}
 use lib.Dec.{eqb}
 use lib.Pow.{pow-pos}
 use lib.Bits.{bitAnd, bitOr, and-comm, and-zero-r, or-zero-r, and-le-r, or-lt, or-add-and, and-le-l, and-high}
-use borrow.Author.Tests.{eqb-true, eq-eqb, ne-eqb, not-false}
+use borrow.Author.Tests.{eqb-true, ne-eqb, not-false}
 use Rattle.bits.specs.Bit.{bit, lacks, has, lowered, stored, masked}
 use Rattle.bits.proofs.Bit.{bit-lt, bit-and, bit-or, bit-ext, bit-high, bit-complement}
 

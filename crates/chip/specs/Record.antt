@@ -1,6 +1,6 @@
 -- The record at power-on, and what its control registers read. Document 01, "The record"; 000, register map.
 -- Assumes nothing.
-use mathlib.Core.Bool.{Bool, false}
+use mathlib.Core.Bool.{false}
 use mathlib.Core.List.{List, [], _∷_}
 use Prim.Native.Nat.{ℕ, _-_}
 use lib.ListN.{getD, replicate}

@@ -1,11 +1,10 @@
 -- What a reset leaves, of any record: power-on is the power-on record; every reset gives a sound record in which nothing
 -- waits; which bytes become 0. Assumes nothing.
-use mathlib.Core.Path.{_≡_, refl, sym, ap, _∙_}
-use mathlib.Core.Bool.{Bool, true, false}
-use mathlib.Core.List.{List, []}
-use Prim.Native.Nat.{ℕ, _≤_}
+use mathlib.Core.Path.{_≡_, refl}
+use mathlib.Core.Bool.{true, false}
+use mathlib.Core.List.{[]}
 use lib.ListN.{replicate}
-use lib.Bits.{bitAnd, and-zero-r}
+use lib.Bits.{and-zero-r}
 use Rattle.bits.proofs.Mask.{masked-lacks}
 use Rattle.ring.specs.Ring.{queue}
 use Rattle.chip.specs.declared.Chip.{Chip}
@@ -13,7 +12,6 @@ use Rattle.chip.specs.Record.{powerOn}
 use Rattle.chip.specs.Sound.{soundChip}
 use Rattle.reset.specs.declared.Reset.{Reset}
 use Rattle.reset.specs.declared.Reset.the-variants.{PowerOn, ChipReset, BusReset}
-use Rattle.reset.specs.Table.{registerAfter}
 use Rattle.reset.specs.Reset.{wipes, chipAfter}
 
 -- power-on forgets whatever the record held

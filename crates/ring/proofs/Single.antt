@@ -1,6 +1,6 @@
 -- A single buffer is a ring of one: arming it and letting its packet go are the ring's operations at n = 1, so the laws for
 -- any number of buffers say what waits in it. Assumes nothing.
-use mathlib.Core.Path.{_≡_, refl, _∙_}
+use mathlib.Core.Path.{_≡_, refl}
 use mathlib.Core.Bool.{true, false}
 use mathlib.Core.List.{List, [], _∷_}
 use Prim.Native.Nat.{ℕ, _≤_}

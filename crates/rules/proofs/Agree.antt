@@ -1,6 +1,6 @@
 -- What the ledger and the record have in common after every call, and every clause of soundness, in parts over
 -- projections alone: a change elsewhere leaves a part as it is. Assumes nothing.
-use mathlib.Core.Path.{_≡_, sym, ap, _∙_}
+use mathlib.Core.Path.{_≡_, _∙_}
 use mathlib.Core.Bool.{Bool, false, not}
 use mathlib.Core.List.{List, _++_}
 use Prim.Native.Nat.{ℕ, _-_, _≤_}

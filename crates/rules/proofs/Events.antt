@@ -1,22 +1,22 @@
 -- Each event's rule and the ledger's keep the agreement. Assumes nothing.
-use mathlib.Core.Path.{_≡_, refl, sym, ap, _∙_, subst}
+use mathlib.Core.Path.{_≡_, refl, sym, ap, _∙_}
 use mathlib.Core.Bool.{Bool, true, false, not, cond, _&&_, Bool·beq}
 use mathlib.Core.List.{List, [], _∷_, _++_, append-assoc}
 use Prim.Native.Nat.{ℕ, _+_, _-_, _≤_, _<_}
 use native.Mathlib.Omega.{arith}
-use lib.Bits.{bitAnd, and-le-r}
-use lib.Dec.{eqb, ltb, leb}
+use lib.Bits.{and-le-r}
+use lib.Dec.{eqb}
 use lib.ListN.{length, getD}
-use borrow.Author.Tests.{ltb-false, leb-false, eqb-true, eqb-false, eq-eqb, ne-eqb, lt-ltb, not-true, not-false}
-use Rattle.bits.specs.Bit.{lacks, has, raised, lowered, masked}
-use Rattle.bits.proofs.Cases.{cond-elim, cond-elim₂, cond-same, ladder-later, and-true}
+use borrow.Author.Tests.{leb-false, eqb-true, eqb-false, lt-ltb, not-true}
+use Rattle.bits.specs.Bit.{has, raised, lowered, masked}
+use Rattle.bits.proofs.Cases.{cond-elim, cond-elim₂, cond-same, ladder-later}
 use Rattle.bits.proofs.Mask.{has-and, has-or}
 use Rattle.ring.specs.declared.Ring.{Ring}
-use Rattle.ring.specs.Ring.{queue, full, nextBuffer, oldestPacket, withoutOldest, releaseOldest, fillNext}
+use Rattle.ring.specs.Ring.{queue, full, oldestPacket, releaseOldest}
 use Rattle.ring.proofs.Laws.{fill-acts, release-acts, fits-fill, queue-fill, fits-release, queue-release, next-release}
 use Rattle.chip.specs.declared.Chip.{Chip}
 use Rattle.chip.specs.Mask.{in0bavirq, in2bavirq, in3bavirq, out0davirq, out1davirq, chipres, ep1disab, ep2disab, stlep1out, stlep2in}
-use Rattle.chip.specs.Set.{setEp0, setEp1, setEp2, setEp3, setEpirq, setEpstalls, setFnaddr}
+use Rattle.chip.specs.Set.{setEp0, setEp1, setEp2, setEpirq, setEpstalls}
 use Rattle.reset.specs.declared.Reset.the-variants.{PowerOn, BusReset}
 use Rattle.rules.specs.declared.Event.{Event}
 use Rattle.rules.specs.declared.ControlOut.{ControlOut}
@@ -27,11 +27,11 @@ use Rattle.rules.specs.declared.ControlIn.{ControlIn}
 use Rattle.rules.specs.declared.ControlIn.the-variants as In0
 use Rattle.rules.specs.declared.DataIn.{DataIn}
 use Rattle.rules.specs.declared.DataIn.the-variants as In
-use Rattle.rules.specs.Transaction.{Reply, ack, silence, Line, lineOf, seen, heard, ep0Setup, setupTo, setupAccepted, ep0Filled, ep1Filled, out0To, out1To, out0Reply, out1Reply, out0Verdict, out1Verdict, ep0Gone, ep2Gone, ep3Gone, addressed, in0To, in2To, in3To, inReply, in0Verdict, in2Verdict, in3Verdict, wLength}
+use Rattle.rules.specs.Transaction.{Reply, Line, lineOf, seen, heard, ep0Setup, setupTo, setupAccepted, ep0Filled, ep1Filled, out0To, out1To, out0Reply, out1Reply, out0Verdict, out1Verdict, ep0Gone, ep2Gone, addressed, in0To, in2To, in3To, inReply, in0Verdict, in2Verdict, in3Verdict, wLength}
 use Rattle.rules.specs.Event.{EventRule, noEvent, powerOnEvent, stableEvent, vbusOnEvent, vbusOffEvent, pinsEvent, resetStartEvent, resetEndEvent, suspendEvent, activityEvent, setupEvent, outEvent, inEvent}
 use Rattle.rules.specs.Ledger.{Ledger, LedgerEvent, unseen, notePowerOn, noteStable, noteVbus, noteResetStart, noteOut, noteIn, acknowledges, receiverStored, senderAcknowledged, setSender, setReceiver, setLine, lineVbus, lineOscok}
-use Rattle.rules.proofs.Agree.{Sends, Receives, Control, Single, Clean, Agree}
-use Rattle.rules.proofs.Requests.{Leaves, clean-epirq, agree-epirq, leaves-raised, leaves-setup}
+use Rattle.rules.proofs.Agree.{Agree}
+use Rattle.rules.proofs.Requests.{clean-epirq, agree-epirq, leaves-raised, leaves-setup}
 use Rattle.rules.proofs.Resets.{agree-reset}
 
 -- an event of code n, whose payload is short where it is an OUT

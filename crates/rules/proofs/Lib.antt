@@ -6,4 +6,5 @@ pub mod Writes
 pub mod Reading
 pub mod Events
 pub mod Tables
+pub mod Refusals
 pub mod Theorem

@@ -1,14 +1,10 @@
 -- A read moves a position at most, and keeps the agreement. Assumes nothing.
-use Prim.Native.Nat.{ℕ, _≤_, _<_}
-use mathlib.Core.Bool.{Bool, cond}
+use Prim.Native.Nat.{ℕ, _<_}
 use native.Mathlib.Omega.{arith}
-use lib.Dec.{eqb}
-use lib.ListN.{getD}
 use borrow.Author.Tests.{ltb-true}
 use Rattle.bits.proofs.Cases.{cond-elim}
-use Rattle.ring.specs.declared.Ring.{Ring}
 use Rattle.ring.specs.Ring.{oldestCount}
-use Rattle.ring.proofs.Laws.{Fits, fits-oldest}
+use Rattle.ring.proofs.Laws.{fits-oldest}
 use Rattle.chip.specs.declared.Chip.{Chip}
 use Rattle.rules.specs.Read.{ReadRule, ep0Left, ep1Left, setupLeft, readEp0fifo, readEp1outfifo, readSudfifo, readNothing, readControl}
 use Rattle.rules.specs.Ledger.{Ledger}

@@ -2,32 +2,36 @@
 -- that a refused call changes neither record nor ledger. Assumes nothing.
 use mathlib.Core.Path.{_≡_, refl, sym, ap, _∙_, subst}
 use mathlib.Core.Logic.{_↔_}
-use mathlib.Core.Bool.{Bool, true, false, not, cond, _&&_, _||_}
-use mathlib.Core.List.{List, [], _∷_, _++_}
-use Prim.Native.Nat.{ℕ, _^_, _≤_, _<_}
+use mathlib.Core.Bool.{true}
+use mathlib.Core.List.{List, [], _∷_}
+use Prim.Native.Nat.{ℕ, _^_, _<_}
 use native.Mathlib.Nat.{zero-add}
 use native.Mathlib.Omega.{arith}
-use lib.Dec.{eqb, ltb}
-use lib.ListN.{length, getD, drop}
-use borrow.Author.Tests.{eqb-true, ltb-true, ltb-false, lt-ltb, eq-eqb}
-use Rattle.bits.specs.Bit.{bit, has, raised}
-use Rattle.bits.proofs.Cases.{cond-elim, cond-elim₂, ladder-none, and-true, or-false}
+use lib.Dec.{ltb}
+use lib.ListN.{length, getD}
+use borrow.Author.Tests.{eqb-true, ltb-true, lt-ltb, eq-eqb}
+use Rattle.bits.specs.Bit.{bit, has}
+use Rattle.bits.proofs.Cases.{cond-elim, cond-elim₂}
 use Rattle.bits.proofs.Mask.{has-or, has-bit}
 use Rattle.ring.specs.Ring.{emptyRing}
 use Rattle.ring.proofs.Laws.{queue-length, fits-drained}
+use Rattle.refusal.specs.declared.Refusal.{Refusal}
+use Rattle.refusal.specs.declared.Refusal.the-variants.{Unsound}
 use Rattle.chip.specs.declared.Chip.{Chip}
 use Rattle.chip.specs.Record.{powerOn}
 use Rattle.chip.specs.Sound.{soundChip}
 use Rattle.chip.specs.Mask.{ackstat}
 use Rattle.chip.proofs.Sound.{clauses-sound}
-use Rattle.rules.specs.declared.Event.{Event}
-use Rattle.rules.specs.Transfer.{Family, commandRegister, commandWrites, acknowledgeStatus, writesTo, readsTo, transferTo}
+use Rattle.rules.specs.declared.Checked.{Checked}
+use Rattle.rules.specs.declared.Checked.the-variants.{Accepted, Refused}
+use Rattle.rules.specs.Transfer.{commandRegister, commandWrites, acknowledgeStatus, writesTo, readsTo, transferTo}
 use Rattle.rules.specs.Write.{ignored}
 use Rattle.rules.specs.Read.{readNothing}
-use Rattle.rules.specs.Call.{Call, transfer, event, Answer, refused, answered, Ground, ground, lowest, transferGrounds, eventGrounds, refusal, isIn, isOut, isSetup, Model, act, replyOf, afterOf, answerOf, run, Entry, history}
-use Rattle.rules.specs.Ledger.{Ledger, blank, Reader, max3420eReader, unnoted, unseen, notesWrites, notesTransfer, notesCall, note, ledger}
-use Rattle.rules.specs.Demand.{chip3420, Demand3, waiting1, waiting2}
-use Rattle.rules.proofs.Agree.{Sends, Receives, Control, Single, Clean, Agree, agree-sound}
+use Rattle.rules.specs.Call.{Call, transfer, event, refused, checked, Model, act, replyOf, settled, answerTo, afterOf, answerOf, run, history}
+use Rattle.rules.specs.Ledger.{Ledger, blank, Reader, max3420eReader, unnoted, notesWrites, notesTransfer, notesCall, note, ledger}
+use Rattle.rules.specs.Demand.{chip3420, Demand3}
+use Rattle.rules.proofs.Agree.{Agree, agree-sound}
+use Rattle.rules.proofs.Refusals.{short-out, sound-accepted}
 use Rattle.rules.proofs.Tables.{Lawful, write-row, read-row, event-row, lawful-3420}
 
 -- ---- a transfer
@@ -76,29 +80,22 @@ module _ (m : Model) (q : Reader) (w : Lawful m q) where
 
 -- ---- an accepted call
 
--- the payload of an accepted OUT has at most 64 bytes
-short-out : (c : Chip) (e : Event) (n room : ℕ) → lowest (eventGrounds c e n room) ≡ 0 → e .code ≡ 11 → n ≤ 64
-short-out c e n room none out =
-    let g₁ = ladder-none (not (soundChip c)) 1 _ (omega arith) none in
-    let g₄ = ladder-none (isIn e && ltb room 64) 4 _ (omega arith) (g₁ .1) in
-    let g₅ = ladder-none (eqb (e .code) 0 || ltb 12 (e .code)) 5 _ (omega arith) (g₄ .1) in
-    let g₆ = ladder-none ((isOut e && ltb 64 n) || (isSetup e && not (eqb n 8))) 6 _ (omega arith) (g₅ .1) in
-    let long : (isOut e && ltb 64 n) ≡ false = or-false (isOut e && ltb 64 n) (isSetup e && not (eqb n 8)) (g₆ .0) .0 in
-    ltb-false 64 n (rw (eq-eqb (e .code) 11 out) at long)
-
 module _ (m : Model) (q : Reader) (w : Lawful m q) where
-  call-keeps : (k : Call) (l : Ledger) (c : Chip) → refusal c k ≡ 0 → Agree l c → Agree (notesCall q l k (replyOf m c k)) (act m c k)
-  call-keeps (transfer bytes room) l c none i = transfer-keeps m q w bytes l c i
-  call-keeps (event e payload room) l c none i =
-      event-row (w .events) (e .code) l c e payload (sym (zero-add (e .code))) (short-out c e (length payload) room none) i
+  call-keeps : (k : Call) (l : Ledger) (c : Chip) → checked c k ≡ Accepted → Agree l c → Agree (notesCall q l k (replyOf m c k)) (act m c k)
+  call-keeps (transfer bytes room) l c accepted i = transfer-keeps m q w bytes l c i
+  call-keeps (event e payload room) l c accepted i =
+      event-row (w .events) (e .code) l c e payload (sym (zero-add (e .code))) (short-out c e (length payload) room accepted) i
 
   -- ---- any call, refused or not
 
+  checked-keeps : (k : Call) (l : Ledger) (c : Chip) → Agree l c → (v : Checked) → checked c k ≡ v → Agree (note q l k (answerTo m c k v)) (settled m c k v)
+  unfolding note
+  checked-keeps k l c i Accepted e = call-keeps k l c e i
+  checked-keeps k l c i (Refused r) e = i
+
   step-keeps : (k : Call) (l : Ledger) (c : Chip) → Agree l c → Agree (note q l k (answerOf m c k)) (afterOf m c k)
-  unfolding note answerOf afterOf
-  step-keeps k l c i =
-      cond-elim₂ (λ (a : Answer) (d : Chip). Agree (note q l k a) d) (eqb (refusal c k) 0) (eqb (refusal c k) 0) refl
-      (λ accepted. call-keeps k l c (eqb-true (refusal c k) 0 accepted) i) (λ _. i)
+  unfolding answerOf afterOf
+  step-keeps k l c i = checked-keeps k l c i (checked c k) refl
 
   -- ---- every list of calls
 
@@ -146,15 +143,16 @@ module _ (m : Model) (q : Reader) (w : Lawful m q) where
   run-sound ks = clauses-sound (run m powerOn ks) (agree-sound (ledger q blank (history m powerOn ks)) (run m powerOn ks) (run-keeps m q w ks blank powerOn starts))
 
 -- a refused call changes neither record nor ledger
-pub refused-keeps : (m : Model) (q : Reader) (l : Ledger) (c : Chip) (k : Call) (n : ℕ) → answerOf m c k ≡ refused n
+refused-only : (m : Model) (q : Reader) (l : Ledger) (c : Chip) (k : Call) (r : Refusal) (v : Checked) → answerTo m c k v ≡ refused r
+    → (settled m c k v ≡ c) × (note q l k (answerTo m c k v) ≡ l)
+unfolding note
+refused-only m q l c k r Accepted e = let z : _≡_ {A = ℕ} 0 1 = cc in absurd (omega arith)
+refused-only m q l c k r (Refused s) e = (refl, refl)
+
+pub refused-keeps : (m : Model) (q : Reader) (l : Ledger) (c : Chip) (k : Call) (r : Refusal) → answerOf m c k ≡ refused r
     → (afterOf m c k ≡ c) × (note q l k (answerOf m c k) ≡ l)
-unfolding answerOf afterOf note
-refused-keeps m q l c k n = go (eqb (refusal c k) 0)
-  where
-    go : (t : Bool) → cond t (answered (replyOf m c k)) (refused (refusal c k)) ≡ refused n
-        → (cond t (act m c k) c ≡ c) × (note q l k (cond t (answered (replyOf m c k)) (refused (refusal c k))) ≡ l)
-    go true e = let z : _≡_ {A = ℕ} 0 1 = cc in absurd (omega arith)
-    go false e = (refl, refl)
+unfolding answerOf afterOf
+refused-keeps m q l c k r e = refused-only m q l c k r (checked c k) e
 
 -- ---- of the MAX3420E
 
@@ -167,27 +165,11 @@ pub reached-sound : (ks : List Call) → soundChip (run chip3420 powerOn ks) ≡
 reached-sound = run-sound chip3420 max3420eReader lawful-3420
 
 -- so refusal 1 never answers a run
--- no ground of a list has number 1
-others : List Ground → Bool
-others [] = true
-others (g ∷ gs) = ltb 1 (g .number) && others gs
+refused-by : (c : Chip) (k : Call) (r : Refusal) (v : Checked) → answerTo chip3420 c k v ≡ refused r → v ≡ Refused r
+refused-by c k r Accepted e = let z : _≡_ {A = ℕ} 0 1 = cc in absurd (omega arith)
+refused-by c k r (Refused s) e = ap Refused cc
 
-lowest-others : (gs : List Ground) → others gs ≡ true → lowest gs ≡ 1 → ⊥
-unfolding others
-lowest-others [] h e = omega arith
-lowest-others (g ∷ gs) h e =
-    let p = and-true (ltb 1 (g .number)) (others gs) h in
-    cond-elim (λ (n : ℕ). n ≡ 1 → ⊥) (g .applies) (λ _ one. omega (arith, ltb-true 1 (g .number) (p .0))) (λ _ one. lowest-others gs (p .1) one) e
-
-sound-refusal : (c : Chip) → soundChip c ≡ true → (k : Call) → refusal c k ≡ 1 → ⊥
-unfolding others
-sound-refusal c s (transfer bytes room) e = lowest-others (drop 1 (transferGrounds c (length bytes) room)) refl (rw s at e)
-sound-refusal c s (event v payload room) e = lowest-others (drop 1 (eventGrounds c v (length payload) room)) refl (rw s at e)
-
-pub reached-accepted : (ks : List Call) (k : Call) → answerOf chip3420 (run chip3420 powerOn ks) k ≡ refused 1 → ⊥
+pub reached-accepted : (ks : List Call) (k : Call) → answerOf chip3420 (run chip3420 powerOn ks) k ≡ refused Unsound → ⊥
 unfolding answerOf
-reached-accepted ks k = go (eqb (refusal (run chip3420 powerOn ks) k) 0)
-  where
-    go : (t : Bool) → cond t (answered (replyOf chip3420 (run chip3420 powerOn ks) k)) (refused (refusal (run chip3420 powerOn ks) k)) ≡ refused 1 → ⊥
-    go true e = let z : _≡_ {A = ℕ} 0 1 = cc in omega arith
-    go false e = sound-refusal (run chip3420 powerOn ks) (reached-sound ks) k cc
+reached-accepted ks k e =
+    sound-accepted (run chip3420 powerOn ks) (reached-sound ks) k (refused-by (run chip3420 powerOn ks) k Unsound (checked (run chip3420 powerOn ks) k) e)

@@ -1,9 +1,9 @@
 -- Each register's write rule and the ledger's keep the agreement: one lemma for each register that the agreement speaks
 -- of. Assumes nothing.
-use mathlib.Core.Path.{_≡_, refl, sym, ap, _∙_, subst}
-use mathlib.Core.Bool.{Bool, true, false, cond, _&&_}
+use mathlib.Core.Path.{_≡_, refl, sym, ap, _∙_}
+use mathlib.Core.Bool.{Bool, cond, _&&_}
 use mathlib.Core.List.{List, [], _∷_, _++_, append-assoc}
-use Prim.Native.Nat.{ℕ, _+_, _-_, _≤_, _<_}
+use Prim.Native.Nat.{ℕ, _+_, _≤_, _<_}
 use native.Mathlib.Decide.{decLt}
 use native.Mathlib.Omega.{arith}
 use lib.Bits.{bitAnd}
@@ -15,17 +15,17 @@ use Rattle.bits.specs.Bit.{lacks, has, lowered, stored}
 use Rattle.bits.proofs.Cases.{cond-elim, cond-elim₂}
 use Rattle.bits.proofs.Mask.{has-and, has-and-none, has-stored-same, has-stored-other}
 use Rattle.ring.specs.declared.Ring.{Ring}
-use Rattle.ring.specs.Ring.{queue, full, nextBuffer, packet, oldestPacket, withByte, withNext, withoutOldest, releaseOldest}
-use Rattle.ring.proofs.Laws.{store-acts, arm-acts, release-acts, release-none, queue-none, fits-store, queue-store, fits-arm, queue-arm, next-arm, fits-release, queue-release}
+use Rattle.ring.specs.Ring.{queue, full, nextBuffer, packet, oldestPacket, releaseOldest}
+use Rattle.ring.proofs.Laws.{store-acts, arm-acts, release-none, queue-none, fits-store, queue-store, fits-arm, queue-arm, next-arm, fits-release, queue-release}
 use Rattle.chip.specs.declared.Chip.{Chip}
 use Rattle.chip.specs.Mask.{in0bavirq, in2bavirq, in3bavirq, out1davirq, ctgep1out, chipres}
 use Rattle.chip.specs.Set.{setEp0, setEp2, setEp3, setEpirq, setUsbctl}
 use Rattle.reset.specs.declared.Reset.the-variants.{ChipReset}
-use Rattle.rules.specs.Write.{WriteRule, ep0Busy, ep0Armed, ep2Stored, ep2Armed, ep3Armed, ignored, writeEp0fifo, writeEp2infifo, writeEp3infifo, armEp0, writeEp0bc, writeEp2inbc, writeEp3inbc, writeEpstalls, writeClrtogs, release, writeEpirq, writeEpien, writeUsbirq, writeUsbien, writeUsbctl, writeCpuctl, writePinctl, writeIopins}
+use Rattle.rules.specs.Write.{WriteRule, ep0Busy, ep0Armed, ep2Stored, ep2Armed, ep3Armed, ignored, writeEp0fifo, writeEp2infifo, writeEp3infifo, writeEp0bc, writeEp2inbc, writeEp3inbc, writeEpstalls, writeClrtogs, release, writeEpirq, writeEpien, writeUsbirq, writeUsbien, writeUsbctl, writeCpuctl, writePinctl, writeIopins}
 use Rattle.rules.specs.Transaction.{Line}
-use Rattle.rules.specs.Ledger.{Ledger, Sender, Receiver, LedgerWrite, unnoted, waitingAt2, senderStored, senderArmed, noteEp2infifo, noteEp2inbc, noteClrtogs, oldestKept, noteEpirq, noteUsbctl, setSender, setReceiver, setLine, lineUsbctl}
-use Rattle.rules.proofs.Agree.{Sends, Receives, Control, Single, Clean, SendsOf, ReceivesOf, Agree, waiting-is}
-use Rattle.rules.proofs.Requests.{Leaves, clean-epirq, agree-epirq, leaves-in0, leaves-cleared}
+use Rattle.rules.specs.Ledger.{Ledger, LedgerWrite, unnoted, waitingAt2, senderStored, senderArmed, noteEp2infifo, noteEp2inbc, noteClrtogs, oldestKept, noteEpirq, noteUsbctl, setSender, setReceiver, setLine, lineUsbctl}
+use Rattle.rules.proofs.Agree.{Agree, waiting-is}
+use Rattle.rules.proofs.Requests.{clean-epirq, agree-epirq, leaves-in0, leaves-cleared}
 use Rattle.rules.proofs.Resets.{agree-reset}
 
 -- a rule of the record and a rule of the ledger keep the agreement

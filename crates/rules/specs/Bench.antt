@@ -11,7 +11,7 @@ use Rattle.chip.specs.declared.PinAnswer.the-variants.{Level}
 use Rattle.chip.specs.Record.{powerOn}
 use Rattle.chip.specs.Pin.{pinAnswer}
 use Rattle.rules.specs.declared.Event.{Event}
-use Rattle.rules.specs.Transaction.{Reply, transferred, done, silence, ack, nak, stall, sent}
+use Rattle.rules.specs.Transaction.{Reply, transferred, done, ack, nak, sent}
 use Rattle.rules.specs.Call.{Call, transfer, event, Answer, answered, answerOf, afterOf}
 use Rattle.rules.specs.Demand.{chip3420}
 

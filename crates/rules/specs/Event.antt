@@ -1,6 +1,6 @@
 -- The twelve events, by their codes (document 01, "The bus side"). A table of these rules is the bus side of a chip.
 -- Assumes nothing.
-use mathlib.Core.Bool.{Bool, true, false, cond}
+use mathlib.Core.Bool.{true, false, cond}
 use mathlib.Core.List.{List, [], _∷_}
 use Prim.Native.Nat.{ℕ, _*_}
 use lib.Bits.{bitAnd}

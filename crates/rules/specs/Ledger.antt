@@ -227,7 +227,7 @@ module _ (q : Reader) where
 
   -- a refused call leaves the ledger alone
   unfoldable pub note : Ledger → Call → Answer → Ledger
-  note l k (refused n) = l
+  note l k (refused r) = l
   note l k (answered a) = notesCall l k a
 
   unfoldable pub ledger : Ledger → List Entry → Ledger

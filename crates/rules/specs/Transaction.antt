@@ -2,7 +2,7 @@
 -- reply (document 01, "The bus side"). A verdict is the outcome of the first rule that applies.
 -- Assumes nothing.
 use mathlib.Core.Bool.{Bool, true, false, not, cond, _&&_, _||_, Bool·beq}
-use mathlib.Core.List.{List, [], _∷_}
+use mathlib.Core.List.{List, []}
 use Prim.Native.Nat.{ℕ, _+_, _*_}
 use lib.Bits.{bitAnd}
 use lib.Dec.{eqb}
@@ -15,7 +15,7 @@ use Rattle.chip.specs.declared.Endpoint1.{Endpoint1}
 use Rattle.chip.specs.declared.Endpoint2.{Endpoint2}
 use Rattle.chip.specs.declared.Endpoint3.{Endpoint3}
 use Rattle.chip.specs.declared.Chip.{Chip}
-use Rattle.chip.specs.Mask.{ackstat, stlstat, stlep0in, stlep0out, stlep1out, stlep2in, stlep3in, ep1disab, ep2disab, ep3disab, in0bavirq, in2bavirq, in3bavirq, out0davirq, out1davirq, sudavirq, chipres, connect, vbgate, ep0inak, ep2inak, ep3inak}
+use Rattle.chip.specs.Mask.{ackstat, stlstat, stlep0in, stlep0out, stlep1out, stlep2in, stlep3in, ep1disab, ep2disab, ep3disab, in0bavirq, in2bavirq, in3bavirq, out0davirq, out1davirq, chipres, connect, vbgate, ep0inak, ep2inak, ep3inak}
 use Rattle.chip.specs.Set.{setEp0, setEp1, setEp2, setEp3, setEpstalls, setEpirq, setPinctl, setFnaddr}
 use Rattle.rules.specs.declared.Event.{Event}
 use Rattle.rules.specs.declared.ControlOut.{ControlOut}

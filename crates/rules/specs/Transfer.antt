@@ -1,7 +1,7 @@
 -- A chip of the family, and an SPI transfer: the command byte, then the data bytes one at a time (document 01, "The SPI
 -- side"; 000, "Accessing the MAX3420E Registers" and pages 23 to 25).
 -- Assumes nothing.
-use mathlib.Core.Bool.{Bool, true, false, cond}
+use mathlib.Core.Bool.{Bool, cond}
 use mathlib.Core.List.{List, [], _∷_}
 use Prim.Native.Nat.{ℕ, _+_, _*_, _/_}
 use lib.Bits.{bitAnd, bitOr}

@@ -1,5 +1,6 @@
 // The meaning of the whole chip: definitions and theorems, no functions. The types below are those that the code above
 // shares with the definitions.
+use refusal::Refusal;
 
 // An event of the bus side. Fields that an event does not use are ignored.
 pub struct Event {
@@ -61,4 +62,10 @@ pub enum DataIn {
     // Nothing is armed.
     Nak,
     Send,
+}
+
+// Whether a call is accepted.
+pub enum Checked {
+    Accepted,
+    Refused(Refusal),
 }
