@@ -87,12 +87,16 @@ case4 =
     case3
     ++ («in» 2 false (sent false (0x01 ∷ [])) ∷ r11 0x11 ∷ «in» 2 true (sent false (0x01 ∷ [])) ∷ r11 0x19 ∷ «in» 2 true (sent true (0x02 ∷ [])) ∷ [])
 
--- a refused count leaves the endpoint empty, 40 arms 64 bytes, 00 an empty packet
+-- R7 is x
+abbrev pub r7 : ℕ → Step
+r7 x = spi (0x38 ∷ 0 ∷ []) (0 ∷ x ∷ [])
+
+-- a count of 41 changes nothing: R11 and R7 stay and nothing is armed; 40 arms 64 bytes, 00 an empty packet
 abbrev pub case5 : List Step
 case5 =
     on
-    ++ (spi (0x3a ∷ 0x41 ∷ []) (0 ∷ 0 ∷ []) ∷ «in» 2 true nak ∷ spi (0x3a ∷ 0x40 ∷ []) (0 ∷ 0 ∷ []) ∷ spi (0x3a ∷ 0x00 ∷ []) (0 ∷ 0 ∷ [])
-    ∷ «in» 2 true (sent false (replicate 64 0)) ∷ «in» 2 true (sent true []) ∷ [])
+    ++ (spi (0x3a ∷ 0x41 ∷ []) (0 ∷ 0 ∷ []) ∷ r11 0x19 ∷ r7 0x00 ∷ «in» 2 true nak ∷ spi (0x3a ∷ 0x40 ∷ []) (0 ∷ 0 ∷ []) ∷ r7 0x40
+    ∷ spi (0x3a ∷ 0x00 ∷ []) (0 ∷ 0 ∷ []) ∷ r7 0x00 ∷ r11 0x11 ∷ «in» 2 true (sent false (replicate 64 0)) ∷ «in» 2 true (sent true []) ∷ [])
 
 abbrev pub case6 : List Step
 case6 =
