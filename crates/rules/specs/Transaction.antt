@@ -169,8 +169,8 @@ out1Reply Out1.Store = ack
 -- ---- IN: if the ACK arrives the packet leaves, the toggle flips, BAV becomes 1; without the ACK nothing changes
 
 -- a NAK to IN, status too, sets that endpoint's INAK bit
-abbrev pub naked : ℕ → Chip → Chip
-naked m c = setPinctl (raised m (c .registers .pinctl)) c
+abbrev pub setInak : ℕ → Chip → Chip
+setInak m c = setPinctl (raised m (c .registers .pinctl)) c
 
 -- ---- IN at endpoint 0
 
@@ -210,7 +210,7 @@ addressed c =
 
 abbrev pub in0To : Chip → Bool → ControlIn → Chip
 in0To c acknowledged In0.Stall = c
-in0To c acknowledged In0.Nak = naked ep0inak c
+in0To c acknowledged In0.Nak = setInak ep0inak c
 in0To c acknowledged In0.Send = cond acknowledged (setEpirq (raised in0bavirq (c .registers .epirq)) (setEp0 (ep0Gone (c .ep0)) c)) c
 in0To c acknowledged In0.Status = cond acknowledged (addressed c) c
 
@@ -230,7 +230,7 @@ dataIn disabled stalled armed = cond disabled In.Silent (cond stalled In.Stall (
 abbrev pub inTo : ℕ → Chip → Chip → Bool → DataIn → Chip
 inTo inak gone c acknowledged In.Silent = c
 inTo inak gone c acknowledged In.Stall = c
-inTo inak gone c acknowledged In.Nak = naked inak c
+inTo inak gone c acknowledged In.Nak = setInak inak c
 inTo inak gone c acknowledged In.Send = cond acknowledged gone c
 
 abbrev pub inReply : Bool → List ℕ → DataIn → Reply
