@@ -1,4 +1,4 @@
--- Every bench case holds of the rules, by computation. Assumes nothing.
+-- Every bench case and every worked example holds of the rules, by computation. Assumes nothing.
 use mathlib.Core.Path.{_≡_, refl}
 use mathlib.Core.Bool.{false}
 use mathlib.Core.List.{map, _++_}
@@ -7,12 +7,17 @@ use Rattle.chip.specs.Sound.{soundChip}
 use Rattle.chip.specs.Pin.{pinAnswer, pinLevel}
 use Rattle.rules.specs.Call.{answerOf, afterOf}
 use Rattle.rules.specs.Bench.{played, cases, on, packetsOf}
+use Rattle.rules.specs.Examples.{examples}
 
 pub bench : map played cases ≡ cases
 unfolding powerOn soundChip pinAnswer pinLevel answerOf afterOf
 bench = refl
 
--- and so does a run of 304 calls
+pub examples-hold : map played examples ≡ examples
+unfolding powerOn soundChip pinAnswer pinLevel answerOf afterOf
+examples-hold = refl
+
+-- a run of 304 calls
 pub long-run : played (on ++ packetsOf false 100) ≡ on ++ packetsOf false 100
 unfolding powerOn soundChip pinAnswer pinLevel answerOf afterOf
 long-run = refl

@@ -7,3 +7,4 @@ pub mod Call
 pub mod Ledger
 pub mod Demand
 pub mod Bench
+pub mod Examples
