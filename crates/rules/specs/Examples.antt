@@ -12,7 +12,7 @@ use Rattle.chip.specs.declared.PinAnswer.the-variants.{Level}
 use Rattle.rules.specs.declared.Event.{Event}
 use Rattle.rules.specs.Transaction.{Reply, silence, ack, nak, stall, sent}
 use Rattle.rules.specs.Call.{Call, transfer, event, refused, answered}
-use Rattle.rules.specs.Bench.{Step, spi, signals, on, out, «in», r11, setup, plain}
+use Rattle.rules.specs.Bench.{Step, called, spi, signals, on, out, «in», r11, setup, plain}
 
 -- a register is written, a register reads
 abbrev pub write : ℕ → ℕ → Step
@@ -20,6 +20,10 @@ write command x = spi (command ∷ x ∷ []) (0 ∷ 0 ∷ [])
 
 abbrev pub reads : ℕ → ℕ → Step
 reads command x = spi (command ∷ 0 ∷ []) (0 ∷ x ∷ [])
+
+abbrev pub transaction : ℕ → ℕ → ℕ → Event
+transaction code address endpoint =
+    record { code = code; pins = 0; address = address; endpoint = endpoint; damaged = false; data1 = false; acknowledged = false }
 
 -- a control transfer that reads: R4, the data in R0, R5; a NAK sets EP0INAK; the status stage waits for ACKSTAT, and is STALL
 -- where it is not empty
@@ -46,11 +50,7 @@ controlWrite =
 
 -- SET_ADDRESS: FNADDR changes when the status stage's ACK arrives
 abbrev pub setupTo : ℕ → Reply → Step
-setupTo address a = record {
-  call = event (record { code = 10; pins = 0; address = address; endpoint = 0; damaged = false; data1 = false; acknowledged = false }) (replicate 8 0) 0;
-  answer = answered a;
-  pin = Level High;
-}
+setupTo address a = called (event (transaction 10 address 0) (replicate 8 0) 0) (answered a) (Level High)
 
 abbrev pub setAddress : List Step
 setAddress =
@@ -89,11 +89,7 @@ gated =
 
 -- refusals
 abbrev pub refuses : Call → Refusal → Step
-refuses k r = record { call = k; answer = refused r; pin = Level High }
-
-abbrev pub transaction : ℕ → ℕ → ℕ → Event
-transaction code address endpoint = record
-    { code = code; pins = 0; address = address; endpoint = endpoint; damaged = false; data1 = false; acknowledged = false }
+refuses k r = called k (refused r) (Level High)
 
 abbrev pub refusals : List Step
 refusals =

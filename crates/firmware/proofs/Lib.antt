@@ -1,0 +1,3 @@
+-- Laws of the answer and of the registers.
+pub mod Laws
+pub mod Registers
