@@ -139,11 +139,13 @@ fn ask(setup: &[u8], firmware: Firmware, buffer: &mut [u8]) -> Firmware {
     response.firmware
 }
 
+// The same with a reply buffer of 64 bytes, which is enough.
 fn ask_with_64(setup: &[u8], firmware: Firmware) -> Firmware {
     let mut buffer = [0u8; 64];
     ask(setup, firmware, &mut buffer)
 }
 
+// The same with a reply buffer of 63 bytes, which is refused.
 fn ask_with_63(setup: &[u8], firmware: Firmware) -> Firmware {
     let mut buffer = [0u8; 63];
     ask(setup, firmware, &mut buffer)
