@@ -26,19 +26,23 @@ stays f = record { value = f; moves = λ c. c }
 abbrev pub ep0Left : Chip → Bool
 ep0Left c = ltb (c .ep0 .readpos) (c .ep0 .count)
 
-abbrev pub ep0Read : Endpoint0 → Endpoint0
-ep0Read e = record {
+-- endpoint 0 with R0's and R4's read positions moved
+abbrev pub ep0At : ℕ → ℕ → Endpoint0 → Endpoint0
+ep0At readpos setuppos e = record {
   bytes = e .bytes;
   setup = e .setup;
   count = e .count;
   armed = e .armed;
-  readpos = e .readpos + 1;
+  readpos = readpos;
   writepos = e .writepos;
-  setuppos = e .setuppos;
+  setuppos = setuppos;
   intoggle = e .intoggle;
   outtoggle = e .outtoggle;
   current = e .current;
 }
+
+abbrev pub ep0Read : Endpoint0 → Endpoint0
+ep0Read e = ep0At (e .readpos + 1) (e .setuppos) e
 
 abbrev pub readEp0fifo : ReadRule
 readEp0fifo = record {
@@ -68,18 +72,7 @@ abbrev pub setupLeft : Chip → Bool
 setupLeft c = ltb (c .ep0 .setuppos) 8
 
 abbrev pub setupRead : Endpoint0 → Endpoint0
-setupRead e = record {
-  bytes = e .bytes;
-  setup = e .setup;
-  count = e .count;
-  armed = e .armed;
-  readpos = e .readpos;
-  writepos = e .writepos;
-  setuppos = e .setuppos + 1;
-  intoggle = e .intoggle;
-  outtoggle = e .outtoggle;
-  current = e .current;
-}
+setupRead e = ep0At (e .readpos) (e .setuppos + 1) e
 
 abbrev pub readSudfifo : ReadRule
 readSudfifo = record {
