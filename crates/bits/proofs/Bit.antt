@@ -1,5 +1,5 @@
 -- The laws of one bit: of a conjunction, a disjunction, a mask, a stored bit; two numbers with the same bits are equal.
--- Any number, any mask, any bit. Assumes nothing.
+-- Any number, any mask, any bit.
 use mathlib.Core.Path.{_≡_, refl, sym, ap, _∙_}
 use mathlib.Core.Bool.{Bool, true, false, cond}
 use Prim.Native.Nat.{ℕ, zero, suc, _-_, _*_, _/_, _%_, _^_, min, max, _<_, _≤_}

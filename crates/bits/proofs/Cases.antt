@@ -1,9 +1,9 @@
--- How a test is taken apart: `cond` on one side, the same test on both sides, a ladder of rules of which the first
--- that applies decides, and a conjunction. Assumes nothing.
-use mathlib.Core.Path.{_≡_, refl, sym, subst}
+-- How a test is taken apart: `cond` on one side, the same test on both sides, a conjunction, a list of clauses.
+use mathlib.Core.Path.{_≡_, refl, sym, ap, _∙_, subst}
 use mathlib.Core.Bool.{Bool, true, false, cond, _&&_, _||_, Bool·beq}
 use mathlib.Core.List.{List, [], _∷_}
 use Prim.Native.Nat.{ℕ, zero, suc}
+use native.Mathlib.Omega.{arith}
 use lib.ListN.{getD}
 use Rattle.bits.specs.Clauses.{joined, clauses}
 
@@ -25,12 +25,9 @@ pub cond-same : {A : Type 0} (t : Bool) (x : A) → cond t x x ≡ x
 cond-same true x = refl
 cond-same false x = refl
 
--- ---- a ladder of rules, the first that applies
-
--- an outcome that f accepts was not given by a rule whose outcome f does not accept
-pub ladder-later : {A : Type 0} (f : A → Bool) (t : Bool) (x y z : A) → f x ≡ false → f z ≡ true → cond t x y ≡ z → (t ≡ false) × (y ≡ z)
-ladder-later f true x y z n m e = let w : _≡_ {A = Bool} true false = cc in (w, cc)
-ladder-later f false x y z n m e = (refl, e)
+-- the two tests differ
+pub true-is-false : {A : Type 0} → _≡_ {A = Bool} true false → A
+true-is-false e = let z : _≡_ {A = ℕ} 0 1 = ap (λ (t : Bool). cond t 0 1) e in absurd (omega arith)
 
 -- ---- conjunction, disjunction, equality of tests
 
@@ -58,6 +55,15 @@ pub clause-at : (bs : List Bool) → clauses bs ≡ true → (i : ℕ) → getD 
 clause-at [] h i = refl
 clause-at (b ∷ bs) h zero = joined-at b bs h .0
 clause-at (b ∷ bs) h (suc i) = joined-at b bs h .1 i
+
+-- and back
+joined-all : (a : Bool) (bs : List Bool) → a ≡ true → ((i : ℕ) → getD bs i true ≡ true) → joined a bs ≡ true
+joined-all a [] h k = h
+joined-all a (b ∷ bs) h k = joined-all (a && b) bs (ap (λ (t : Bool). t && b) h ∙ k 0) (λ i. k (suc i))
+
+pub clauses-all : (bs : List Bool) → ((i : ℕ) → getD bs i true ≡ true) → clauses bs ≡ true
+clauses-all [] k = refl
+clauses-all (b ∷ bs) k = joined-all b bs (k 0) (λ i. k (suc i))
 
 pub beq-eq : (a b : Bool) → Bool·beq a b ≡ true → a ≡ b
 beq-eq true true e = refl

@@ -1,4 +1,4 @@
--- A test of every number below a bound, computed, and what it tells of each. Assumes nothing.
+-- A test of every number below a bound, computed, and what it tells of each.
 use mathlib.Core.Path.{_≡_, subst}
 use mathlib.Core.Bool.{Bool, true, _&&_}
 use Prim.Native.Nat.{ℕ, zero, suc, _<_}

@@ -1,4 +1,6 @@
 pub mod Cases
+pub mod First
+pub mod Rows
 pub mod Bit
 pub mod Mask
 pub mod Every

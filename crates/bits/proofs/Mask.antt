@@ -1,9 +1,8 @@
 -- The laws of a mask: whether some bit of it is 1 after an operation. Any number, any masks: at numerals the masks on the
 -- right compute, so `has-and x 0xF7 4` says that `x & 0xF7` keeps bit 2 and `has-or x 8 8` that `x | 8` sets bit 3.
--- Assumes nothing.
 use mathlib.Core.Path.{_≡_, sym, ap, _∙_}
 use mathlib.Core.Bool.{Bool, true, false, not, _||_}
-use Prim.Native.Nat.{ℕ, zero, suc, _+_, _-_, _*_, _^_, min, _<_}
+use Prim.Native.Nat.{ℕ, zero, suc, _+_, _-_, _*_, _^_, min, _<_, _≤_}
 use native.Mathlib.Nat.{lt-of-le-of-lt, zero-mul, one-mul, pow-suc, add-comm}
 use native.Mathlib.Numerals.{add-one}
 use native.Mathlib.Decide.{decLt}
@@ -86,14 +85,14 @@ has-narrow x m p h =
     ap (λ (n : ℕ). not (eqb n 0)) (ap (bitAnd x) (and-comm m p) ∙ sym (and-assoc x p m) ∙ ap (λ (n : ℕ). bitAnd n m) none)
 
 -- a mask's bits that x lacks stay 0 where none is set
-pub lacks-masked : (keep set x p : ℕ) → lacks set p ≡ true → lacks x p ≡ true → lacks (masked keep set x) p ≡ true
-lacks-masked keep set x p h g =
+pub lacks-masked-kept : (keep set x p : ℕ) → lacks set p ≡ true → lacks x p ≡ true → lacks (masked keep set x) p ≡ true
+lacks-masked-kept keep set x p h g =
     not-false (lacks (masked keep set x) p)
     (has-masked keep set x p ∙ ap (λ (t : Bool). not t || has x (bitAnd keep p)) h ∙ has-narrow x keep p (ap not g))
 
 -- and bits that are neither kept nor set are 0; the last two arguments are refl at numerals
-pub masked-lacks : (keep set x p : ℕ) → lacks set p ≡ true → bitAnd keep p ≡ 0 → lacks (masked keep set x) p ≡ true
-masked-lacks keep set x p h g =
+pub lacks-masked-cleared : (keep set x p : ℕ) → lacks set p ≡ true → bitAnd keep p ≡ 0 → lacks (masked keep set x) p ≡ true
+lacks-masked-cleared keep set x p h g =
     not-false (lacks (masked keep set x) p)
     (has-masked keep set x p ∙ ap (λ (t : Bool). not t || has x (bitAnd keep p)) h ∙ ap (has x) g ∙ has-none x)
 
@@ -109,6 +108,10 @@ has-bit x k =
   where
     power : 2 ^ k ≡ 2 ^ (1 + k) - 2 ^ k
     power = rw (add-comm 1 k, add-one k, pow-suc 2 k) (omega arith)
+
+-- a number below the bit lacks it; the last argument is an order of numerals
+pub has-above : (w x k : ℕ) → x < 2 ^ w → w ≤ k → has x (2 ^ k) ≡ false
+has-above w x k h l = has-bit x k ∙ ap (λ (n : ℕ). eqb n 1) (bit-high w x k h l)
 
 -- ---- a masked number stays within its width
 

@@ -1,7 +1,6 @@
 -- Bits of a number, and what a register's masks do to them. A mask is a number whose 1 bits are meant.
 -- The operations are those of the code: `x & m != 0`, `x | m`, `x & !m`, `(x & keep) | set`.
--- Assumes nothing.
-use mathlib.Core.Bool.{Bool, not, cond}
+use mathlib.Core.Bool.{Bool, not, cond, _&&_}
 use Prim.Native.Nat.{ℕ, _-_, _/_, _%_, _^_}
 use lib.Dec.{eqb}
 use lib.Bits.{bitAnd, bitOr}
@@ -33,3 +32,7 @@ stored m b x = cond b (raised m x) (lowered m x)
 -- the bits of keep stay, the bits of set become 1, all others 0
 abbrev pub masked : ℕ → ℕ → ℕ → ℕ
 masked keep set x = bitOr (bitAnd x keep) set
+
+-- some bit of the mask goes 0 to 1, from x to y
+abbrev pub rises : ℕ → ℕ → ℕ → Bool
+rises m x y = lacks x m && has y m

@@ -1,5 +1,4 @@
 -- A list of tests that must all hold. It computes to what the code's `a & b & c` means, the first two joined first.
--- Assumes nothing.
 use mathlib.Core.Bool.{Bool, true, _&&_}
 use mathlib.Core.List.{List, [], _∷_}
 

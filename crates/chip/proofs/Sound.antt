@@ -1,107 +1,149 @@
 -- Soundness by its clauses, and back: a record is sound exactly if every clause of decision 29 holds of it.
--- Assumes nothing.
-use mathlib.Core.Path.{_≡_, ap}
-use mathlib.Core.Bool.{true, false, not, Bool·beq}
-use mathlib.Core.List.{[], _∷_}
-use Prim.Native.Nat.{ℕ, _≤_}
+use mathlib.Core.Path.{_≡_, refl, sym, ap, _∙_}
+use mathlib.Core.Logic.{_≢_}
+use mathlib.Core.Bool.{Bool, true, false, not, Bool·beq}
+use mathlib.Core.List.{List, [], _∷_}
+use Prim.Native.Nat.{ℕ, zero, suc, _≤_, _<_}
+use native.Mathlib.Decide.{decLt, ℕ-discrete}
+use native.Mathlib.Omega.{arith}
 use lib.Dec.{ltb, leb}
+use lib.ListN.{length, getD, set}
+use lib.Seq.{getD-set-same, getD-set-other, set-out}
 use borrow.Author.Tests.{leb-true, le-leb, not-false}
 use Rattle.bits.specs.Bit.{lacks, has}
-use Rattle.bits.proofs.Cases.{clause-at, beq-eq, beq-refl}
+use Rattle.bits.specs.Clauses.{clauses}
+use Rattle.bits.proofs.Cases.{clause-at, clauses-all, beq-eq, beq-refl}
+use Rattle.bits.proofs.Mask.{has-none}
+use Rattle.ring.specs.declared.Ring.{Ring}
 use Rattle.ring.specs.Ring.{soundRing}
 use Rattle.chip.specs.declared.Chip.{Chip}
 use Rattle.chip.specs.Mask.{in2bavirq, in3bavirq, out1davirq}
-use Rattle.chip.specs.Sound.{soundEp0, soundEp1, soundEp2, soundEp3, soundRegisters, soundRequests, soundChip}
+use Rattle.chip.specs.Record.{bytesOf}
+use Rattle.chip.specs.Sound.{soundEp0, soundEp1, soundEp2, soundEp3, lackEach, unusedRegisters, soundRegisters, soundIrqs, soundChip}
+
+-- ---- the clauses of each part, over what they speak of alone
+
+pub record SoundEp0 (n r w s : ℕ) : Type 0 where
+  pub count : n ≤ 64
+  pub readpos : r ≤ 64
+  pub writepos : w ≤ 64
+  pub setuppos : s ≤ 8
+
+pub record SoundEp1 (q : Ring) (r : ℕ) (dav : Bool) : Type 0 where
+  pub ring : soundRing 2 q ≡ true
+  pub readpos : r ≤ 64
+  pub irq : dav ≡ ltb 0 (q .waiting)
+
+pub record SoundEp2 (q : Ring) (n w : ℕ) (bav : Bool) : Type 0 where
+  pub ring : soundRing 2 q ≡ true
+  pub count : n ≤ 64
+  pub writepos : w ≤ 64
+  pub irq : bav ≡ ltb (q .waiting) 2
+
+pub record SoundEp3 (n w : ℕ) (armed bav : Bool) : Type 0 where
+  pub count : n ≤ 64
+  pub writepos : w ≤ 64
+  pub irq : bav ≡ not armed
+
+-- each number of a list lacks the bits of its mask
+abbrev pub Clean : List ℕ → List ℕ → Type 0
+Clean xs ms = (i : ℕ) → has (getD xs i 0) (getD ms i 0) ≡ false
 
 pub record Sound (c : Chip) : Type 0 where
-  pub count0 : c .ep0 .count ≤ 64
-  pub readpos0 : c .ep0 .readpos ≤ 64
-  pub writepos0 : c .ep0 .writepos ≤ 64
-  pub setuppos : c .ep0 .setuppos ≤ 8
-  pub ring1 : soundRing (c .ep1 .ring) ≡ true
-  pub readpos1 : c .ep1 .readpos ≤ 64
-  pub ring2 : soundRing (c .ep2 .ring) ≡ true
-  pub count2 : c .ep2 .count ≤ 64
-  pub writepos2 : c .ep2 .writepos ≤ 64
-  pub count3 : c .ep3 .count ≤ 64
-  pub writepos3 : c .ep3 .writepos ≤ 64
-  pub epstalls : has (c .registers .epstalls) 0x80 ≡ false
-  pub clrtogs : has (c .registers .clrtogs) 0x1f ≡ false
-  pub epirq : has (c .registers .epirq) 0xc0 ≡ false
-  pub epien : has (c .registers .epien) 0xc0 ≡ false
-  pub usbctl : has (c .registers .usbctl) 0x03 ≡ false
-  pub cpuctl : has (c .registers .cpuctl) 0xfe ≡ false
-  pub fnaddr : c .registers .fnaddr ≤ 127
-  pub in2bav : has (c .registers .epirq) in2bavirq ≡ ltb (c .ep2 .ring .waiting) 2
-  pub in3bav : has (c .registers .epirq) in3bavirq ≡ not (c .ep3 .armed)
-  pub out1dav : has (c .registers .epirq) out1davirq ≡ ltb 0 (c .ep1 .ring .waiting)
+  pub ep0 : SoundEp0 (c .ep0 .count) (c .ep0 .readpos) (c .ep0 .writepos) (c .ep0 .setuppos)
+  pub ep1 : SoundEp1 (c .ep1 .ring) (c .ep1 .readpos) (has (c .registers .epirq) out1davirq)
+  pub ep2 : SoundEp2 (c .ep2 .ring) (c .ep2 .count) (c .ep2 .writepos) (has (c .registers .epirq) in2bavirq)
+  pub ep3 : SoundEp3 (c .ep3 .count) (c .ep3 .writepos) (c .ep3 .armed) (has (c .registers .epirq) in3bavirq)
+  pub unused : Clean (bytesOf (c .registers)) unusedRegisters
+
+-- ---- unused bits
+
+-- one number of the list is replaced by one that lacks its mask
+pub clean-set : (xs ms : List ℕ) (i x : ℕ) → Clean xs ms → has x (getD ms i 0) ≡ false → Clean (set xs i x) ms
+clean-set xs ms i x h new j = elim (ℕ-discrete j i) [
+  | yes e ↦
+      elim (decLt i (length xs)) [
+        | yes l ↦ rw (e, getD-set-same xs i x 0 l) new
+        | no g ↦ rw (set-out xs i x (omega arith)) (h j)
+      ]
+  | no e ↦ rw (getD-set-other xs i j x 0 e) (h j)
+]
+
+-- by any number, where the mask has no bit; the last argument is refl at a numeral
+pub clean-set-any : (xs ms : List ℕ) (i x : ℕ) → Clean xs ms → getD ms i 0 ≡ 0 → Clean (set xs i x) ms
+clean-set-any xs ms i x h none = clean-set xs ms i x h (rw none (has-none x))
+
+lack-at : (xs ms : List ℕ) (i : ℕ) → length xs ≡ length ms → getD (lackEach xs ms) i true ≡ lacks (getD xs i 0) (getD ms i 0)
+lack-at [] [] i e = refl
+lack-at [] (m ∷ ms) i e = absurd (omega arith)
+lack-at (x ∷ xs) [] i e = absurd (omega arith)
+lack-at (x ∷ xs) (m ∷ ms) zero e = refl
+lack-at (x ∷ xs) (m ∷ ms) (suc i) e = lack-at xs ms i (omega arith)
+
+-- ---- and back
 
 pub sound-clauses : (c : Chip) → soundChip c ≡ true → Sound c
 unfolding soundChip
 sound-clauses c t =
     let g = c .registers in
-    let part = clause-at (soundEp0 (c .ep0) ∷ soundEp1 (c .ep1) ∷ soundEp2 (c .ep2) ∷ soundEp3 (c .ep3) ∷ soundRegisters g ∷ soundRequests c ∷ []) t in
+    let part = clause-at (soundEp0 (c .ep0) ∷ soundEp1 (c .ep1) ∷ soundEp2 (c .ep2) ∷ soundEp3 (c .ep3) ∷ soundRegisters g ∷ soundIrqs c ∷ []) t in
     let ep0 = clause-at (leb (c .ep0 .count) 64 ∷ leb (c .ep0 .readpos) 64 ∷ leb (c .ep0 .writepos) 64 ∷ leb (c .ep0 .setuppos) 8 ∷ []) (part 0) in
-    let ep1 = clause-at (soundRing (c .ep1 .ring) ∷ leb (c .ep1 .readpos) 64 ∷ []) (part 1) in
-    let ep2 = clause-at (soundRing (c .ep2 .ring) ∷ leb (c .ep2 .count) 64 ∷ leb (c .ep2 .writepos) 64 ∷ []) (part 2) in
+    let ep1 = clause-at (soundRing 2 (c .ep1 .ring) ∷ leb (c .ep1 .readpos) 64 ∷ []) (part 1) in
+    let ep2 = clause-at (soundRing 2 (c .ep2 .ring) ∷ leb (c .ep2 .count) 64 ∷ leb (c .ep2 .writepos) 64 ∷ []) (part 2) in
     let ep3 = clause-at (leb (c .ep3 .count) 64 ∷ leb (c .ep3 .writepos) 64 ∷ []) (part 3) in
-    let regs = clause-at
-    (lacks (g .epstalls) 0x80 ∷ lacks (g .clrtogs) 0x1f ∷ lacks (g .epirq) 0xc0 ∷ lacks (g .epien) 0xc0 ∷ lacks (g .usbctl) 0x03 ∷
-    lacks (g .cpuctl) 0xfe ∷ leb (g .fnaddr) 127 ∷ []) (part 4) in
     let irqs = clause-at
     (Bool·beq (has (g .epirq) in2bavirq) (ltb (c .ep2 .ring .waiting) 2) ∷ Bool·beq (has (g .epirq) in3bavirq) (not (c .ep3 .armed)) ∷
     Bool·beq (has (g .epirq) out1davirq) (ltb 0 (c .ep1 .ring .waiting)) ∷ []) (part 5) in
     record {
-      count0 = leb-true (c .ep0 .count) 64 (ep0 0);
-      readpos0 = leb-true (c .ep0 .readpos) 64 (ep0 1);
-      writepos0 = leb-true (c .ep0 .writepos) 64 (ep0 2);
-      setuppos = leb-true (c .ep0 .setuppos) 8 (ep0 3);
-      ring1 = ep1 0;
-      readpos1 = leb-true (c .ep1 .readpos) 64 (ep1 1);
-      ring2 = ep2 0;
-      count2 = leb-true (c .ep2 .count) 64 (ep2 1);
-      writepos2 = leb-true (c .ep2 .writepos) 64 (ep2 2);
-      count3 = leb-true (c .ep3 .count) 64 (ep3 0);
-      writepos3 = leb-true (c .ep3 .writepos) 64 (ep3 1);
-      epstalls = ap not (regs 0);
-      clrtogs = ap not (regs 1);
-      epirq = ap not (regs 2);
-      epien = ap not (regs 3);
-      usbctl = ap not (regs 4);
-      cpuctl = ap not (regs 5);
-      fnaddr = leb-true (g .fnaddr) 127 (regs 6);
-      in2bav = beq-eq (has (g .epirq) in2bavirq) (ltb (c .ep2 .ring .waiting) 2) (irqs 0);
-      in3bav = beq-eq (has (g .epirq) in3bavirq) (not (c .ep3 .armed)) (irqs 1);
-      out1dav = beq-eq (has (g .epirq) out1davirq) (ltb 0 (c .ep1 .ring .waiting)) (irqs 2);
+      ep0 = record {
+        count = leb-true (c .ep0 .count) 64 (ep0 0);
+        readpos = leb-true (c .ep0 .readpos) 64 (ep0 1);
+        writepos = leb-true (c .ep0 .writepos) 64 (ep0 2);
+        setuppos = leb-true (c .ep0 .setuppos) 8 (ep0 3);
+      };
+      ep1 = record {
+        ring = ep1 0;
+        readpos = leb-true (c .ep1 .readpos) 64 (ep1 1);
+        irq = beq-eq (has (g .epirq) out1davirq) (ltb 0 (c .ep1 .ring .waiting)) (irqs 2);
+      };
+      ep2 = record {
+        ring = ep2 0;
+        count = leb-true (c .ep2 .count) 64 (ep2 1);
+        writepos = leb-true (c .ep2 .writepos) 64 (ep2 2);
+        irq = beq-eq (has (g .epirq) in2bavirq) (ltb (c .ep2 .ring .waiting) 2) (irqs 0);
+      };
+      ep3 = record {
+        count = leb-true (c .ep3 .count) 64 (ep3 0);
+        writepos = leb-true (c .ep3 .writepos) 64 (ep3 1);
+        irq = beq-eq (has (g .epirq) in3bavirq) (not (c .ep3 .armed)) (irqs 1);
+      };
+      unused = λ i. ap not (sym (lack-at (bytesOf g) unusedRegisters i refl) ∙ clause-at (lackEach (bytesOf g) unusedRegisters) (part 4) i);
     }
+
+registers-sound : (c : Chip) → Clean (bytesOf (c .registers)) unusedRegisters → soundRegisters (c .registers) ≡ true
+registers-sound c h =
+    clauses-all (lackEach (bytesOf (c .registers)) unusedRegisters)
+    (λ i. lack-at (bytesOf (c .registers)) unusedRegisters i refl ∙ not-false (lacks (getD (bytesOf (c .registers)) i 0) (getD unusedRegisters i 0)) (h i))
 
 pub clauses-sound : (c : Chip) → Sound c → soundChip c ≡ true
 unfolding soundChip
 clauses-sound c s =
-    let g = c .registers in
-    let none : (x m : ℕ) → has x m ≡ false → lacks x m ≡ true = λ x m. not-false (lacks x m) in
     rw (
-      le-leb (c .ep0 .count) 64 (s .count0),
-      le-leb (c .ep0 .readpos) 64 (s .readpos0),
-      le-leb (c .ep0 .writepos) 64 (s .writepos0),
-      le-leb (c .ep0 .setuppos) 8 (s .setuppos),
-      s .ring1,
-      le-leb (c .ep1 .readpos) 64 (s .readpos1),
-      s .ring2,
-      le-leb (c .ep2 .count) 64 (s .count2),
-      le-leb (c .ep2 .writepos) 64 (s .writepos2),
-      le-leb (c .ep3 .count) 64 (s .count3),
-      le-leb (c .ep3 .writepos) 64 (s .writepos3),
-      none (g .epstalls) 0x80 (s .epstalls),
-      none (g .clrtogs) 0x1f (s .clrtogs),
-      none (g .epirq) 0xc0 (s .epirq),
-      none (g .epien) 0xc0 (s .epien),
-      none (g .usbctl) 0x03 (s .usbctl),
-      none (g .cpuctl) 0xfe (s .cpuctl),
-      le-leb (g .fnaddr) 127 (s .fnaddr),
-      s .in2bav,
-      s .in3bav,
-      s .out1dav,
+      le-leb (c .ep0 .count) 64 (s .ep0 .count),
+      le-leb (c .ep0 .readpos) 64 (s .ep0 .readpos),
+      le-leb (c .ep0 .writepos) 64 (s .ep0 .writepos),
+      le-leb (c .ep0 .setuppos) 8 (s .ep0 .setuppos),
+      s .ep1 .ring,
+      le-leb (c .ep1 .readpos) 64 (s .ep1 .readpos),
+      s .ep2 .ring,
+      le-leb (c .ep2 .count) 64 (s .ep2 .count),
+      le-leb (c .ep2 .writepos) 64 (s .ep2 .writepos),
+      le-leb (c .ep3 .count) 64 (s .ep3 .count),
+      le-leb (c .ep3 .writepos) 64 (s .ep3 .writepos),
+      registers-sound c (s .unused),
+      s .ep2 .irq,
+      s .ep3 .irq,
+      s .ep1 .irq,
       beq-refl (ltb (c .ep2 .ring .waiting) 2),
       beq-refl (not (c .ep3 .armed)),
       beq-refl (ltb 0 (c .ep1 .ring .waiting)),

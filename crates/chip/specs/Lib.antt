@@ -3,3 +3,4 @@ pub mod Record
 pub mod Set
 pub mod Sound
 pub mod Pin
+pub mod Same

@@ -1,67 +1,77 @@
--- The record with one part, or one register, replaced. Assumes nothing.
+-- The record with one part, or one register, replaced.
 use mathlib.Core.Bool.{Bool}
-use Prim.Native.Nat.{ℕ}
+use Prim.Native.Nat.{ℕ, _-_}
+use lib.ListN.{set}
+use Rattle.chip.specs.Record.{bytesOf, ofBytes}
 use Rattle.chip.specs.declared.Endpoint0.{Endpoint0}
 use Rattle.chip.specs.declared.Endpoint1.{Endpoint1}
 use Rattle.chip.specs.declared.Endpoint2.{Endpoint2}
 use Rattle.chip.specs.declared.Endpoint3.{Endpoint3}
 use Rattle.chip.specs.declared.Registers.{Registers}
+use Rattle.chip.specs.declared.Power.{Power}
 use Rattle.chip.specs.declared.Chip.{Chip}
 
 -- ---- one part
 
 abbrev pub setEp0 : Endpoint0 → Chip → Chip
-setEp0 x c = record { ep0 = x; ep1 = c .ep1; ep2 = c .ep2; ep3 = c .ep3; registers = c .registers; vbus = c .vbus; oscok = c .oscok }
+setEp0 x c = record { ep0 = x; ep1 = c .ep1; ep2 = c .ep2; ep3 = c .ep3; registers = c .registers; power = c .power }
 
 abbrev pub setEp1 : Endpoint1 → Chip → Chip
-setEp1 x c = record { ep0 = c .ep0; ep1 = x; ep2 = c .ep2; ep3 = c .ep3; registers = c .registers; vbus = c .vbus; oscok = c .oscok }
+setEp1 x c = record { ep0 = c .ep0; ep1 = x; ep2 = c .ep2; ep3 = c .ep3; registers = c .registers; power = c .power }
 
 abbrev pub setEp2 : Endpoint2 → Chip → Chip
-setEp2 x c = record { ep0 = c .ep0; ep1 = c .ep1; ep2 = x; ep3 = c .ep3; registers = c .registers; vbus = c .vbus; oscok = c .oscok }
+setEp2 x c = record { ep0 = c .ep0; ep1 = c .ep1; ep2 = x; ep3 = c .ep3; registers = c .registers; power = c .power }
 
 abbrev pub setEp3 : Endpoint3 → Chip → Chip
-setEp3 x c = record { ep0 = c .ep0; ep1 = c .ep1; ep2 = c .ep2; ep3 = x; registers = c .registers; vbus = c .vbus; oscok = c .oscok }
+setEp3 x c = record { ep0 = c .ep0; ep1 = c .ep1; ep2 = c .ep2; ep3 = x; registers = c .registers; power = c .power }
 
 abbrev pub setRegisters : Registers → Chip → Chip
-setRegisters x c = record { ep0 = c .ep0; ep1 = c .ep1; ep2 = c .ep2; ep3 = c .ep3; registers = x; vbus = c .vbus; oscok = c .oscok }
+setRegisters x c = record { ep0 = c .ep0; ep1 = c .ep1; ep2 = c .ep2; ep3 = c .ep3; registers = x; power = c .power }
 
-abbrev pub setVbus : Bool → Chip → Chip
-setVbus x c = record { ep0 = c .ep0; ep1 = c .ep1; ep2 = c .ep2; ep3 = c .ep3; registers = c .registers; vbus = x; oscok = c .oscok }
+abbrev pub setPower : Power → Chip → Chip
+setPower x c = record { ep0 = c .ep0; ep1 = c .ep1; ep2 = c .ep2; ep3 = c .ep3; registers = c .registers; power = x }
 
-abbrev pub setOscok : Bool → Chip → Chip
-setOscok x c = record { ep0 = c .ep0; ep1 = c .ep1; ep2 = c .ep2; ep3 = c .ep3; registers = c .registers; vbus = c .vbus; oscok = x }
+abbrev pub withVbus : Bool → Power → Power
+withVbus x p = record { vbus = x; oscok = p .oscok }
+
+abbrev pub withOscok : Bool → Power → Power
+withOscok x p = record { vbus = p .vbus; oscok = x }
 
 -- ---- one register
 
+-- register n of R9 to R20; R18 is constant
+abbrev pub setRegister : ℕ → ℕ → Chip → Chip
+setRegister n x c = setRegisters (ofBytes (set (bytesOf (c .registers)) (n - 9) x)) c
+
 abbrev pub setEpstalls : ℕ → Chip → Chip
-setEpstalls x c = setRegisters (record { epstalls = x; clrtogs = c .registers .clrtogs; epirq = c .registers .epirq; epien = c .registers .epien; usbirq = c .registers .usbirq; usbien = c .registers .usbien; usbctl = c .registers .usbctl; cpuctl = c .registers .cpuctl; pinctl = c .registers .pinctl; fnaddr = c .registers .fnaddr; iopins = c .registers .iopins }) c
+setEpstalls = setRegister 9
 
 abbrev pub setClrtogs : ℕ → Chip → Chip
-setClrtogs x c = setRegisters (record { epstalls = c .registers .epstalls; clrtogs = x; epirq = c .registers .epirq; epien = c .registers .epien; usbirq = c .registers .usbirq; usbien = c .registers .usbien; usbctl = c .registers .usbctl; cpuctl = c .registers .cpuctl; pinctl = c .registers .pinctl; fnaddr = c .registers .fnaddr; iopins = c .registers .iopins }) c
+setClrtogs = setRegister 10
 
 abbrev pub setEpirq : ℕ → Chip → Chip
-setEpirq x c = setRegisters (record { epstalls = c .registers .epstalls; clrtogs = c .registers .clrtogs; epirq = x; epien = c .registers .epien; usbirq = c .registers .usbirq; usbien = c .registers .usbien; usbctl = c .registers .usbctl; cpuctl = c .registers .cpuctl; pinctl = c .registers .pinctl; fnaddr = c .registers .fnaddr; iopins = c .registers .iopins }) c
+setEpirq = setRegister 11
 
 abbrev pub setEpien : ℕ → Chip → Chip
-setEpien x c = setRegisters (record { epstalls = c .registers .epstalls; clrtogs = c .registers .clrtogs; epirq = c .registers .epirq; epien = x; usbirq = c .registers .usbirq; usbien = c .registers .usbien; usbctl = c .registers .usbctl; cpuctl = c .registers .cpuctl; pinctl = c .registers .pinctl; fnaddr = c .registers .fnaddr; iopins = c .registers .iopins }) c
+setEpien = setRegister 12
 
 abbrev pub setUsbirq : ℕ → Chip → Chip
-setUsbirq x c = setRegisters (record { epstalls = c .registers .epstalls; clrtogs = c .registers .clrtogs; epirq = c .registers .epirq; epien = c .registers .epien; usbirq = x; usbien = c .registers .usbien; usbctl = c .registers .usbctl; cpuctl = c .registers .cpuctl; pinctl = c .registers .pinctl; fnaddr = c .registers .fnaddr; iopins = c .registers .iopins }) c
+setUsbirq = setRegister 13
 
 abbrev pub setUsbien : ℕ → Chip → Chip
-setUsbien x c = setRegisters (record { epstalls = c .registers .epstalls; clrtogs = c .registers .clrtogs; epirq = c .registers .epirq; epien = c .registers .epien; usbirq = c .registers .usbirq; usbien = x; usbctl = c .registers .usbctl; cpuctl = c .registers .cpuctl; pinctl = c .registers .pinctl; fnaddr = c .registers .fnaddr; iopins = c .registers .iopins }) c
+setUsbien = setRegister 14
 
 abbrev pub setUsbctl : ℕ → Chip → Chip
-setUsbctl x c = setRegisters (record { epstalls = c .registers .epstalls; clrtogs = c .registers .clrtogs; epirq = c .registers .epirq; epien = c .registers .epien; usbirq = c .registers .usbirq; usbien = c .registers .usbien; usbctl = x; cpuctl = c .registers .cpuctl; pinctl = c .registers .pinctl; fnaddr = c .registers .fnaddr; iopins = c .registers .iopins }) c
+setUsbctl = setRegister 15
 
 abbrev pub setCpuctl : ℕ → Chip → Chip
-setCpuctl x c = setRegisters (record { epstalls = c .registers .epstalls; clrtogs = c .registers .clrtogs; epirq = c .registers .epirq; epien = c .registers .epien; usbirq = c .registers .usbirq; usbien = c .registers .usbien; usbctl = c .registers .usbctl; cpuctl = x; pinctl = c .registers .pinctl; fnaddr = c .registers .fnaddr; iopins = c .registers .iopins }) c
+setCpuctl = setRegister 16
 
 abbrev pub setPinctl : ℕ → Chip → Chip
-setPinctl x c = setRegisters (record { epstalls = c .registers .epstalls; clrtogs = c .registers .clrtogs; epirq = c .registers .epirq; epien = c .registers .epien; usbirq = c .registers .usbirq; usbien = c .registers .usbien; usbctl = c .registers .usbctl; cpuctl = c .registers .cpuctl; pinctl = x; fnaddr = c .registers .fnaddr; iopins = c .registers .iopins }) c
+setPinctl = setRegister 17
 
 abbrev pub setFnaddr : ℕ → Chip → Chip
-setFnaddr x c = setRegisters (record { epstalls = c .registers .epstalls; clrtogs = c .registers .clrtogs; epirq = c .registers .epirq; epien = c .registers .epien; usbirq = c .registers .usbirq; usbien = c .registers .usbien; usbctl = c .registers .usbctl; cpuctl = c .registers .cpuctl; pinctl = c .registers .pinctl; fnaddr = x; iopins = c .registers .iopins }) c
+setFnaddr = setRegister 19
 
 abbrev pub setIopins : ℕ → Chip → Chip
-setIopins x c = setRegisters (record { epstalls = c .registers .epstalls; clrtogs = c .registers .clrtogs; epirq = c .registers .epirq; epien = c .registers .epien; usbirq = c .registers .usbirq; usbien = c .registers .usbien; usbctl = c .registers .usbctl; cpuctl = c .registers .cpuctl; pinctl = c .registers .pinctl; fnaddr = c .registers .fnaddr; iopins = x }) c
+setIopins = setRegister 20

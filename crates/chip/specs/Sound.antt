@@ -1,13 +1,16 @@
--- When a record is sound: every clause of document 01, "It is sound when" (decision 29). A clause that a type of the
--- record holds by itself, as "0..1 wait at EP0 IN and EP3" (a bool), has no test.
--- Assumes nothing.
+-- When a record is sound: every clause of document 01, "It is sound when" (decision 29). A clause that a type of the record holds
+-- by itself, as "0..1 wait at EP0 IN and EP3" (a bool), has no test. Ours, beyond the document's words: the oldest packet of a
+-- ring is in one of its two buffers, and bits 4..2 of R10, which read back 0, count as unused.
 use mathlib.Core.Bool.{Bool, not, Bool·beq}
-use mathlib.Core.List.{[], _∷_}
+use mathlib.Core.List.{List, [], _∷_}
+use Prim.Native.Nat.{ℕ}
 use lib.Dec.{ltb, leb}
+use lib.ListN.{drop}
 use Rattle.bits.specs.Bit.{has, lacks}
 use Rattle.bits.specs.Clauses.{clauses}
 use Rattle.ring.specs.Ring.{soundRing}
-use Rattle.chip.specs.Mask.{in2bavirq, in3bavirq, out1davirq}
+use Rattle.chip.specs.Mask.{in2bavirq, in3bavirq, out1davirq, unused}
+use Rattle.chip.specs.Record.{bytesOf}
 use Rattle.chip.specs.declared.Endpoint0.{Endpoint0}
 use Rattle.chip.specs.declared.Endpoint1.{Endpoint1}
 use Rattle.chip.specs.declared.Endpoint2.{Endpoint2}
@@ -20,24 +23,31 @@ abbrev pub soundEp0 : Endpoint0 → Bool
 soundEp0 e = clauses (leb (e .count) 64 ∷ leb (e .readpos) 64 ∷ leb (e .writepos) 64 ∷ leb (e .setuppos) 8 ∷ [])
 
 abbrev pub soundEp1 : Endpoint1 → Bool
-soundEp1 e = clauses (soundRing (e .ring) ∷ leb (e .readpos) 64 ∷ [])
+soundEp1 e = clauses (soundRing 2 (e .ring) ∷ leb (e .readpos) 64 ∷ [])
 
 abbrev pub soundEp2 : Endpoint2 → Bool
-soundEp2 e = clauses (soundRing (e .ring) ∷ leb (e .count) 64 ∷ leb (e .writepos) 64 ∷ [])
+soundEp2 e = clauses (soundRing 2 (e .ring) ∷ leb (e .count) 64 ∷ leb (e .writepos) 64 ∷ [])
 
 abbrev pub soundEp3 : Endpoint3 → Bool
 soundEp3 e = clauses (leb (e .count) 64 ∷ leb (e .writepos) 64 ∷ [])
 
--- unused bits are 0 (000, register map; those of R10 that read back 0 too), FNADDR is at most 127
+-- each number of a list lacks the bits of its mask
+abbrev pub lackEach : List ℕ → List ℕ → List Bool
+lackEach [] ms = []
+lackEach (x ∷ xs) [] = []
+lackEach (x ∷ xs) (m ∷ ms) = lacks x m ∷ lackEach xs ms
+
+-- the bits that R9 to R20 do not have
+abbrev pub unusedRegisters : List ℕ
+unusedRegisters = drop 4 unused
+
+-- unused bits are 0; FNADDR is at most 127, that is, bit 7 of R19 is unused
 abbrev pub soundRegisters : Registers → Bool
-soundRegisters g =
-    clauses
-    (lacks (g .epstalls) 0x80 ∷ lacks (g .clrtogs) 0x1f ∷ lacks (g .epirq) 0xc0 ∷ lacks (g .epien) 0xc0 ∷ lacks (g .usbctl) 0x03 ∷
-    lacks (g .cpuctl) 0xfe ∷ leb (g .fnaddr) 127 ∷ [])
+soundRegisters g = clauses (lackEach (bytesOf g) unusedRegisters)
 
 -- IN2BAVIRQ is 1 exactly if fewer than two wait, IN3BAVIRQ exactly if none, OUT1DAVIRQ exactly if one or two do
-abbrev pub soundRequests : Chip → Bool
-soundRequests c =
+abbrev pub soundIrqs : Chip → Bool
+soundIrqs c =
     clauses
     (Bool·beq (has (c .registers .epirq) in2bavirq) (ltb (c .ep2 .ring .waiting) 2) ∷
     Bool·beq (has (c .registers .epirq) in3bavirq) (not (c .ep3 .armed)) ∷
@@ -45,4 +55,4 @@ soundRequests c =
 
 unfoldable pub soundChip : Chip → Bool
 soundChip c =
-    clauses (soundEp0 (c .ep0) ∷ soundEp1 (c .ep1) ∷ soundEp2 (c .ep2) ∷ soundEp3 (c .ep3) ∷ soundRegisters (c .registers) ∷ soundRequests c ∷ [])
+    clauses (soundEp0 (c .ep0) ∷ soundEp1 (c .ep1) ∷ soundEp2 (c .ep2) ∷ soundEp3 (c .ep3) ∷ soundRegisters (c .registers) ∷ soundIrqs c ∷ [])

@@ -3,9 +3,9 @@ use refusal::Refusal;
 use ring::Ring;
 ghost use mathlib.Core.Path.{_≡_};
 ghost use mathlib.Core.Bool.{cond};
-ghost use Rattle.chip.specs.Record.{powerOnRegisters, powerOn};
-ghost use Rattle.chip.specs.Sound.{soundEp0, soundEp1, soundEp2, soundEp3, soundRegisters, soundRequests, soundChip};
-ghost use Rattle.chip.specs.Pin.{interruptActive, pinLevel, pinAnswer};
+ghost use Rattle.chip.specs.Record.{powerOnRegisters, powerOnChip};
+ghost use Rattle.chip.specs.Sound.{soundEp0, soundEp1, soundEp2, soundEp3, soundRegisters, soundIrqs, soundChip};
+ghost use Rattle.chip.specs.Pin.{interruptActive, pinOf, pinReply, pinNumber, pinRefusal, pinValue};
 
 // Endpoint 0: one buffer for both directions, and the setup bytes (SUDFIFO). A toggle is true for DATA1.
 pub struct Endpoint0 {
@@ -65,16 +65,21 @@ pub struct Registers {
     pub iopins: u8,
 }
 
+// What the chip is supplied with.
+pub struct Power {
+    // The VBUS comparator's level.
+    pub vbus: bool,
+    // The oscillator is stable (000 page 49).
+    pub oscok: bool,
+}
+
 pub struct Chip {
     pub ep0: Endpoint0,
     pub ep1: Endpoint1,
     pub ep2: Endpoint2,
     pub ep3: Endpoint3,
     pub registers: Registers,
-    // The VBUS comparator's level.
-    pub vbus: bool,
-    // The oscillator is stable (000 page 49).
-    pub oscok: bool,
+    pub power: Power,
 }
 
 // The resting level of the INT pin; `pinNumber` gives its value.
@@ -84,7 +89,7 @@ pub enum Pin {
     Open,
 }
 
-pub enum PinAnswer {
+pub enum PinReply {
     Refused(Refusal),
     Level(Pin),
 }
@@ -152,10 +157,10 @@ impl Registers {
             & (self.epien & 0xc0 == 0)
             & (self.usbctl & 0x03 == 0)
             & (self.cpuctl & 0xfe == 0)
-            & (self.fnaddr <= 127)
+            & (self.fnaddr & 0x80 == 0)
     }
 
-    // IE is set, and some request has its enable bit set.
+    // IE is set, and some IRQ bit has its enable bit set.
     fn interrupt_active(self) -> bool
         ensures { λ r. ⌜ r ≡ interruptActive self ⌝ }
     {
@@ -163,8 +168,8 @@ impl Registers {
             & ((self.epirq & self.epien != 0) | (self.usbirq & self.usbien != 0))
     }
 
-    fn pin_level(self) -> Pin
-        ensures { λ r. ⌜ r ≡ pinLevel self ⌝ }
+    pub fn pin(self) -> Pin
+        ensures { λ r. ⌜ r ≡ pinOf self ⌝ }
     {
         let active = self.interrupt_active();
         if self.pinctl & Chip::INTLEVEL != 0 {
@@ -207,7 +212,7 @@ impl Chip {
     pub const POSINT: u8 = 0x04;
 
     pub fn power_on() -> Self
-        ensures { λ r. ⌜ r ≡ powerOn ⌝ }
+        ensures { λ r. ⌜ r ≡ powerOnChip ⌝ }
     {
         let ring = Ring::empty();
         Chip {
@@ -242,19 +247,21 @@ impl Chip {
                 toggle: false,
             },
             registers: Registers::power_on(),
-            vbus: false,
-            oscok: false,
+            power: Power {
+                vbus: false,
+                oscok: false,
+            },
         }
     }
 
-    // The request bits tell whether packets wait.
-    fn sound_requests(self) -> bool
-        ensures { λ r. ⌜ r ≡ soundRequests self ⌝ }
+    // The IRQ bits tell whether packets wait.
+    fn sound_irqs(self) -> bool
+        ensures { λ r. ⌜ r ≡ soundIrqs self ⌝ }
     {
-        let requests = self.registers.epirq;
-        ((requests & Chip::IN2BAVIRQ != 0) == (self.ep2.ring.waiting < 2))
-            & ((requests & Chip::IN3BAVIRQ != 0) == !self.ep3.armed)
-            & ((requests & Chip::OUT1DAVIRQ != 0) == (0 < self.ep1.ring.waiting))
+        let irqs = self.registers.epirq;
+        ((irqs & Chip::IN2BAVIRQ != 0) == (self.ep2.ring.waiting < 2))
+            & ((irqs & Chip::IN3BAVIRQ != 0) == !self.ep3.armed)
+            & ((irqs & Chip::OUT1DAVIRQ != 0) == (0 < self.ep1.ring.waiting))
     }
 
     pub fn is_sound(self) -> bool
@@ -265,21 +272,17 @@ impl Chip {
         let c = self.ep2;
         let d = self.ep3;
         let g = self.registers;
-        a.is_sound()
-            & b.is_sound()
-            & c.is_sound()
-            & d.is_sound()
-            & g.is_sound()
-            & self.sound_requests()
+        a.is_sound() & b.is_sound() & c.is_sound() & d.is_sound() & g.is_sound() & self.sound_irqs()
     }
 
-    pub fn int_pin(self) -> PinAnswer
-        ensures { λ r. ⌜ r ≡ pinAnswer self ⌝ }
+    pub fn int_pin(self) -> PinReply
+        ensures { λ r. ⌜ (r ≡ pinReply self) × (pinRefusal r ≡ cond (soundChip self) 0 1)
+            × (pinValue r ≡ cond (soundChip self) (pinNumber (pinOf (self .registers))) 3) ⌝ }
     {
         if self.is_sound() {
             let g = self.registers;
-            return PinAnswer::Level(g.pin_level());
+            return PinReply::Level(g.pin());
         }
-        PinAnswer::Refused(Refusal::Unsound)
+        PinReply::Refused(Refusal::Unsound)
     }
 }

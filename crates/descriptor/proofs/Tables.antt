@@ -1,5 +1,4 @@
 -- The tables hold what 003 prints, state their lengths rightly, and are at most 64 bytes long: each by one computed test.
--- Assumes nothing.
 use mathlib.Core.Path.{_≡_, refl}
 use mathlib.Core.Bool.{Bool, true, _&&_, and-eq-true-iff}
 use mathlib.Core.List.{List, [], _∷_, _++_, map}

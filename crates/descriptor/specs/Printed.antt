@@ -1,4 +1,4 @@
--- What 003 prints of the descriptors. Assumes nothing.
+-- What 003 prints of the descriptors.
 use mathlib.Core.List.{List, [], _∷_}
 use Prim.Native.Nat.{ℕ}
 use lib.ListN.{length, take, drop}

@@ -1,5 +1,4 @@
 -- How many bytes of a table are sent, and what the reply buffer then holds (document 01, "The firmware").
--- Assumes nothing.
 use mathlib.Core.Path.{_≡_}
 use mathlib.Core.List.{List, _++_}
 use Prim.Native.Nat.{ℕ, min}

@@ -1,5 +1,5 @@
 -- The descriptors. 003 prints some of their bytes (specs/Printed.antt); the rest is ours (docs/DECISIONS.md, entry 31).
--- Words have their low byte first. Assumes nothing.
+-- Words have their low byte first.
 use mathlib.Core.List.{List, [], _∷_, _++_}
 use Prim.Native.Nat.{ℕ, _+_, _*_, _/_, _%_}
 use Prim.Native.Char.{code}

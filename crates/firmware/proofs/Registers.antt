@@ -1,4 +1,4 @@
--- R9 keeps all bits but bit 4, and R10 all but bits 4, 3 and 2, whatever the byte. Assumes nothing.
+-- R9 keeps all bits but bit 4, and R10 all but bits 4, 3 and 2, whatever the byte.
 use mathlib.Core.Path.{_≡_, refl, _∙_}
 use Prim.Native.Nat.{ℕ}
 use lib.Bits.{bitAnd, or-zero-r}

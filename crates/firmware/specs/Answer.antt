@@ -1,5 +1,6 @@
--- The firmware's answer to a call: the response, and the reply buffer after it (document 01, "The firmware" and "Numbers
--- of refusal"). Assumes nothing.
+-- The firmware's answer to a call: the answer, and the reply buffer after it (document 01, "The firmware" and "Numbers
+-- of refusal").
+use mathlib.Core.Path.{_≡_}
 use mathlib.Core.Bool.{Bool, not, cond}
 use mathlib.Core.List.{List, [], _∷_}
 use Prim.Native.Nat.{ℕ}
@@ -10,81 +11,108 @@ use Rattle.descriptor.specs.Table.{bytesOf}
 use Rattle.refusal.specs.declared.Refusal.{Refusal}
 use Rattle.refusal.specs.declared.Refusal.the-variants.{Unsound, ShortBuffer, BadPayload}
 use Rattle.refusal.specs.Number.{refusalNumber}
-use Rattle.request.specs.Record.{isSound}
-use Rattle.request.specs.Rule.{firstOf}
+use Rattle.request.specs.Record.{soundFirmware}
+use Rattle.bits.specs.First.{firstOf}
 use Rattle.request.specs.Request.{requestOf, decisionOf}
 use Rattle.request.specs.declared.Firmware.{Firmware}
 use Rattle.request.specs.declared.Request.{Request}
 use Rattle.request.specs.declared.Decision.{Decision}
 use Rattle.request.specs.declared.Decision.the-variants as Decision
 use Rattle.request.specs.declared.Endpoints.the-variants.{Unchanged}
-use Rattle.firmware.specs.declared.Reply.{Reply}
-use Rattle.firmware.specs.declared.Reply.the-variants.{Refused, Stall, Ack, Data}
-use Rattle.firmware.specs.declared.Response.{Response}
+use Rattle.firmware.specs.declared.RequestReply.{RequestReply}
+use Rattle.firmware.specs.declared.RequestReply.the-variants.{Refused, Stall, Ack, Data}
+use Rattle.firmware.specs.declared.RequestAnswer.{RequestAnswer}
 
 -- ---- numbers
 
 -- the number of refusal; 0 is none
-abbrev pub refusalOf : Reply → ℕ
-refusalOf (Refused r) = refusalNumber r
-refusalOf Stall = 0
-refusalOf Ack = 0
-refusalOf (Data n) = 0
+abbrev pub requestRefusal : RequestReply → ℕ
+requestRefusal (Refused r) = refusalNumber r
+requestRefusal Stall = 0
+requestRefusal Ack = 0
+requestRefusal (Data n) = 0
 
 -- 1 STALL, 2 ACK only, 3 data and ACK; 0 is no answer
-abbrev pub kindOf : Reply → ℕ
-kindOf (Refused r) = 0
-kindOf Stall = 1
-kindOf Ack = 2
-kindOf (Data n) = 3
+abbrev pub requestKind : RequestReply → ℕ
+requestKind (Refused r) = 0
+requestKind Stall = 1
+requestKind Ack = 2
+requestKind (Data n) = 3
 
 -- the bytes that the reply counts
-abbrev pub countOf : Reply → ℕ
-countOf (Refused r) = 0
-countOf Stall = 0
-countOf Ack = 0
-countOf (Data n) = n
+abbrev pub requestCount : RequestReply → ℕ
+requestCount (Refused r) = 0
+requestCount Stall = 0
+requestCount Ack = 0
+requestCount (Data n) = n
 
 -- ---- what a request is answered
 
--- the response, and the reply buffer after the call
-pub record Outcome : Type 0 where
-  pub response : Response
+-- the answer, and the reply buffer after the call
+pub record Handled : Type 0 where
+  pub answer : RequestAnswer
   pub buffer : List ℕ
 
 -- the record and the endpoints stay
-abbrev pub unchanged : Reply → Firmware → Response
+abbrev pub unchanged : RequestReply → Firmware → RequestAnswer
 unchanged r f = record { reply = r; firmware = f; endpoints = Unchanged }
 
 -- n bytes and ACK; n = 0 is ACK only
-abbrev pub counted : ℕ → Reply
+abbrev pub counted : ℕ → RequestReply
 counted n = cond (eqb n 0) Ack (Data n)
 
-abbrev pub outcomeOf : Decision → ℕ → Firmware → List ℕ → Outcome
-outcomeOf Decision.Stall wlength f reply = record { response = unchanged Stall f; buffer = reply }
-outcomeOf (Decision.Send d) wlength f reply =
-    record { response = unchanged (counted (count (bytesOf d) wlength)) f; buffer = written (bytesOf d) wlength reply }
-outcomeOf (Decision.Accept next e) wlength f reply = record { response = record { reply = Ack; firmware = next; endpoints = e }; buffer = reply }
+abbrev pub decisionServed : Decision → ℕ → Firmware → List ℕ → Handled
+decisionServed Decision.Stall wlength f reply = record { answer = unchanged Stall f; buffer = reply }
+decisionServed (Decision.Send d) wlength f reply =
+    record { answer = unchanged (counted (count (bytesOf d) wlength)) f; buffer = written (bytesOf d) wlength reply }
+decisionServed (Decision.Accept next e) wlength f reply = record { answer = record { reply = Ack; firmware = next; endpoints = e }; buffer = reply }
 
-unfoldable pub servedOf : Request → Firmware → List ℕ → Outcome
-servedOf q f reply = outcomeOf (decisionOf q f) (q .wlength) f reply
+unfoldable pub servedOf : Request → Firmware → List ℕ → Handled
+servedOf q f reply = decisionServed (decisionOf q f) (q .wlength) f reply
 
 -- ---- what a call is answered
 
 -- record and reply buffer come back unchanged
-abbrev pub refused : Refusal → Firmware → List ℕ → Outcome
-refused r f reply = record { response = unchanged (Refused r) f; buffer = reply }
+abbrev pub refusedWith : Refusal → Firmware → List ℕ → Handled
+refusedWith r f reply = record { answer = unchanged (Refused r) f; buffer = reply }
 
 -- the lowest number that applies is given
-abbrev pub refusals : List ℕ → Firmware → List ℕ → List (Bool × Outcome)
+abbrev pub refusals : List ℕ → Firmware → List ℕ → List (Bool × Handled)
 refusals setup f reply =
     -- 1: the record is not sound
-    (not (isSound f), refused Unsound f reply)
+    (not (soundFirmware f), refusedWith Unsound f reply)
     -- 4: the reply buffer is under 64 bytes
-    ∷ (ltb (length reply) 64, refused ShortBuffer f reply)
+    ∷ (ltb (length reply) 64, refusedWith ShortBuffer f reply)
     -- 6: the setup bytes are not eight
-    ∷ (not (eqb (length setup) 8), refused BadPayload f reply)
+    ∷ (not (eqb (length setup) 8), refusedWith BadPayload f reply)
     ∷ []
 
-unfoldable pub answerOf : List ℕ → Firmware → List ℕ → Outcome
-answerOf setup f reply = firstOf (refusals setup f reply) (servedOf (requestOf setup) f reply)
+unfoldable pub handled : List ℕ → Firmware → List ℕ → Handled
+handled setup f reply = firstOf (refusals setup f reply) (servedOf (requestOf setup) f reply)
+
+-- ---- the numbers of a call, each with when it is given
+
+-- the lowest number of refusal that applies; 0 is none
+abbrev pub numbered : List ℕ → Firmware → List ℕ → ℕ
+numbered setup f reply = firstOf ((not (soundFirmware f), 1) ∷ (ltb (length reply) 64, 4) ∷ (not (eqb (length setup) 8), 6) ∷ []) 0
+
+-- n where the call is not refused, else 0
+abbrev pub unlessRefused : List ℕ → Firmware → List ℕ → ℕ → ℕ
+unlessRefused setup f reply n = firstOf ((not (soundFirmware f), 0) ∷ (ltb (length reply) 64, 0) ∷ (not (eqb (length setup) 8), 0) ∷ []) n
+
+-- what kind of reply a decision gets, and how many bytes
+abbrev pub decisionKind : Decision → ℕ → ℕ
+decisionKind Decision.Stall wlength = 1
+decisionKind (Decision.Send d) wlength = cond (eqb (count (bytesOf d) wlength) 0) 2 3
+decisionKind (Decision.Accept next e) wlength = 2
+
+abbrev pub decisionCount : Decision → ℕ → ℕ
+decisionCount Decision.Stall wlength = 0
+decisionCount (Decision.Send d) wlength = count (bytesOf d) wlength
+decisionCount (Decision.Accept next e) wlength = 0
+
+-- a promise's numbers: refusal, kind and count of the reply
+pub record Numbers (setup : List ℕ) (f : Firmware) (buffer : List ℕ) (r : RequestReply) : Type 0 where
+  pub refusal : requestRefusal r ≡ numbered setup f buffer
+  pub kind : requestKind r ≡ unlessRefused setup f buffer (decisionKind (decisionOf (requestOf setup) f) (requestOf setup .wlength))
+  pub count : requestCount r ≡ unlessRefused setup f buffer (decisionCount (decisionOf (requestOf setup) f) (requestOf setup .wlength))

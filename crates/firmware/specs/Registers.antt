@@ -1,5 +1,5 @@
 -- What an accepted request writes to R9 and R10 before the ACK, from the bytes that they held; other bits are kept
--- (docs/DECISIONS.md, entries 33 and 35). Assumes nothing.
+-- (docs/DECISIONS.md, entries 33 and 35).
 use Prim.Native.Nat.{ℕ}
 use lib.Bits.{bitAnd, bitOr}
 use Rattle.request.specs.declared.Endpoints.{Endpoints}

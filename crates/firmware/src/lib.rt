@@ -4,7 +4,7 @@ ghost use Prim.Native.Nat.{_≤_};
 ghost use lib.ListN.{length};
 ghost use Rattle.request.specs.Request.{word, requestOf};
 ghost use Rattle.firmware.specs.Registers.{epstallsOf, clrtogsOf};
-ghost use Rattle.firmware.specs.Answer.{unchanged, counted, servedOf, answerOf};
+ghost use Rattle.firmware.specs.Answer.{unchanged, counted, servedOf, handled, Numbers};
 use refusal::Refusal;
 use request::Decision;
 pub use request::Endpoints;
@@ -12,7 +12,7 @@ pub use request::Firmware;
 use request::Request;
 
 // A refusal, STALL, ACK only, or so many bytes and ACK.
-pub enum Reply {
+pub enum RequestReply {
     Refused(Refusal),
     Stall,
     Ack,
@@ -20,8 +20,8 @@ pub enum Reply {
 }
 
 // The reply, the next record, and what is to be written to R9 and R10 before the ACK.
-pub struct Response {
-    pub reply: Reply,
+pub struct RequestAnswer {
+    pub reply: RequestReply,
     pub firmware: Firmware,
     pub endpoints: Endpoints,
 }
@@ -48,17 +48,21 @@ fn parse(setup: &[u8]) -> Request
 }
 
 // So many bytes and ACK; none is ACK only.
-fn counted(n: u8) -> Reply
+fn counted(n: u8) -> RequestReply
     ensures { λ r. ⌜ r ≡ counted n ⌝ }
 {
-    if n == 0 { Reply::Ack } else { Reply::Data(n) }
+    if n == 0 {
+        RequestReply::Ack
+    } else {
+        RequestReply::Data(n)
+    }
 }
 
 // A reply that leaves the record and the endpoints as they are.
-fn unchanged(reply: Reply, firmware: Firmware) -> Response
+fn unchanged(reply: RequestReply, firmware: Firmware) -> RequestAnswer
     ensures { λ r. ⌜ r ≡ unchanged reply firmware ⌝ }
 {
-    Response {
+    RequestAnswer {
         reply,
         firmware,
         endpoints: Endpoints::Unchanged,
@@ -66,18 +70,18 @@ fn unchanged(reply: Reply, firmware: Firmware) -> Response
 }
 
 // The answer to a request, for a call that is not refused.
-fn serve(request: Request, firmware: Firmware, reply: &mut [u8]) -> Response
+fn serve(request: Request, firmware: Firmware, reply: &mut [u8]) -> RequestAnswer
     requires { ⌜ 64 ≤ length (now reply) ⌝ }
-    ensures { λ r. ⌜ (r ≡ servedOf request firmware (now (reply .entry)) .response)
+    ensures { λ r. ⌜ (r ≡ servedOf request firmware (now (reply .entry)) .answer)
         × (now (reply .exit) ≡ servedOf request firmware (now (reply .entry)) .buffer) ⌝ }
 {
     match request::decide(request, firmware) {
-        Decision::Stall => unchanged(Reply::Stall, firmware),
+        Decision::Stall => unchanged(RequestReply::Stall, firmware),
         Decision::Send(contents) => {
             unchanged(counted(contents.send(request.wlength, reply)), firmware)
         }
-        Decision::Accept(next, endpoints) => Response {
-            reply: Reply::Ack,
+        Decision::Accept(next, endpoints) => RequestAnswer {
+            reply: RequestReply::Ack,
             firmware: next,
             endpoints,
         },
@@ -108,19 +112,20 @@ pub fn clrtogs(endpoints: Endpoints, r10: u8) -> u8
     }
 }
 
-// The answer to a call: the response, and the bytes that it counts at the start of the reply buffer.
-pub fn answer(setup: &[u8], firmware: Firmware, reply: &mut [u8]) -> Response
-    ensures { λ r. ⌜ (r ≡ answerOf (now (setup .entry)) firmware (now (reply .entry)) .response)
-        × (now (reply .exit) ≡ answerOf (now (setup .entry)) firmware (now (reply .entry)) .buffer) ⌝ }
+// The answer to a call: the answer, and the bytes that it counts at the start of the reply buffer.
+pub fn answer(setup: &[u8], firmware: Firmware, reply: &mut [u8]) -> RequestAnswer
+    ensures { λ r. ⌜ (r ≡ handled (now (setup .entry)) firmware (now (reply .entry)) .answer)
+        × (now (reply .exit) ≡ handled (now (setup .entry)) firmware (now (reply .entry)) .buffer)
+        × Numbers (now (setup .entry)) firmware (now (reply .entry)) (r .reply) ⌝ }
 {
     if !firmware.is_sound() {
-        return unchanged(Reply::Refused(Refusal::Unsound), firmware);
+        return unchanged(RequestReply::Refused(Refusal::Unsound), firmware);
     }
     if reply.len() < 64 {
-        return unchanged(Reply::Refused(Refusal::ShortBuffer), firmware);
+        return unchanged(RequestReply::Refused(Refusal::ShortBuffer), firmware);
     }
     if setup.len() != 8 {
-        return unchanged(Reply::Refused(Refusal::BadPayload), firmware);
+        return unchanged(RequestReply::Refused(Refusal::BadPayload), firmware);
     }
     serve(parse(setup), firmware, reply)
 }

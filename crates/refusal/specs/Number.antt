@@ -1,4 +1,4 @@
--- The numbers of refusal (document 01). Assumes nothing.
+-- The numbers of refusal (document 01).
 use Prim.Native.Nat.{ℕ}
 use Rattle.refusal.specs.declared.Refusal.{Refusal}
 use Rattle.refusal.specs.declared.Refusal.the-variants.{Unsound, NoCommand, LongTransfer, ShortBuffer, UnknownEvent, BadPayload, BadAddress}

@@ -1,10 +1,10 @@
 -- A decision that is right of a request with its type and code written out is right of the request: so the rules of other
--- types and codes compute away. Assumes nothing.
+-- types and codes compute away.
 use mathlib.Core.Path.{_≡_, _∙_, sym, ap₂}
 use Prim.Native.Nat.{ℕ}
 use borrow.Author.Tests.{ne-eqb}
 use Rattle.request.specs.Request.{rules, decisionOf}
-use Rattle.request.specs.Rule.{firstOf}
+use Rattle.bits.specs.First.{firstOf}
 use Rattle.request.specs.declared.Firmware.{Firmware}
 use Rattle.request.specs.declared.Request.{Request}
 use Rattle.request.specs.declared.Decision.{Decision}

@@ -1,4 +1,3 @@
--- Laws of the decisions, of rules in a row and of the record.
+-- Laws of the decisions and of the record.
 pub mod Decided
-pub mod Rules
 pub mod Sound

@@ -1,3 +1,2 @@
 pub mod Record
-pub mod Rule
 pub mod Request

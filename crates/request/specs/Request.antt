@@ -1,4 +1,4 @@
--- What becomes of each request (document 01, "The firmware"). Assumes nothing.
+-- What becomes of each request (document 01, "The firmware").
 use mathlib.Core.Bool.{Bool, true, false, cond, _&&_, _||_}
 use mathlib.Core.List.{List, [], _∷_}
 use Prim.Native.Nat.{ℕ, _+_, _*_, _/_, _%_}
@@ -12,7 +12,7 @@ use Rattle.request.specs.declared.Decision.{Decision}
 use Rattle.request.specs.declared.Decision.the-variants.{Stall, Send, Accept}
 use Rattle.request.specs.declared.Endpoints.the-variants.{Unchanged, ClearHalt, SetHalt, Configure}
 use Rattle.request.specs.Record.{configured, setConfiguration, setWakeup, setHalted}
-use Rattle.request.specs.Rule.{firstOf}
+use Rattle.bits.specs.First.{firstOf}
 
 -- ---- the fields of a request
 

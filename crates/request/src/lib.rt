@@ -4,7 +4,7 @@
 // that are answered.
 ghost use mathlib.Core.Path.{_≡_};
 ghost use mathlib.Core.Bool.{cond};
-ghost use Rattle.request.specs.Record.{powerOn, isSound};
+ghost use Rattle.request.specs.Record.{powerOnFirmware, soundFirmware};
 ghost use Rattle.request.specs.Request.{fields, plain, decisionOf};
 use descriptor::Data;
 
@@ -17,7 +17,7 @@ pub struct Firmware {
 
 impl Firmware {
     pub fn power_on() -> Self
-        ensures { λ r. ⌜ r ≡ powerOn ⌝ }
+        ensures { λ r. ⌜ r ≡ powerOnFirmware ⌝ }
     {
         Firmware {
             configuration: 0,
@@ -27,7 +27,7 @@ impl Firmware {
     }
 
     pub fn is_sound(self) -> bool
-        ensures { λ r. ⌜ r ≡ isSound self ⌝ }
+        ensures { λ r. ⌜ r ≡ soundFirmware self ⌝ }
     {
         (self.configuration <= 1) & (!self.halted | (self.configuration == 1))
     }

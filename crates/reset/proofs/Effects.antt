@@ -1,33 +1,33 @@
 -- What a reset leaves, of any record: power-on is the power-on record; every reset gives a sound record in which nothing
--- waits; which bytes become 0. Assumes nothing.
+-- waits; which bytes become 0.
 use mathlib.Core.Path.{_≡_, refl}
 use mathlib.Core.Bool.{true, false}
 use mathlib.Core.List.{[]}
 use lib.ListN.{replicate}
 use lib.Bits.{and-zero-r}
-use Rattle.bits.proofs.Mask.{masked-lacks}
+use Rattle.bits.proofs.Mask.{lacks-masked-cleared}
 use Rattle.ring.specs.Ring.{queue}
 use Rattle.chip.specs.declared.Chip.{Chip}
-use Rattle.chip.specs.Record.{powerOn}
+use Rattle.chip.specs.Record.{powerOnChip}
 use Rattle.chip.specs.Sound.{soundChip}
 use Rattle.reset.specs.declared.Reset.{Reset}
 use Rattle.reset.specs.declared.Reset.the-variants.{PowerOn, ChipReset, BusReset}
 use Rattle.reset.specs.Reset.{wipes, chipAfter}
 
 -- power-on forgets whatever the record held
-pub power-on-forgets : (c : Chip) → chipAfter PowerOn c ≡ powerOn
-unfolding powerOn
+pub power-on-forgets : (c : Chip) → chipAfter PowerOn c ≡ powerOnChip
+unfolding powerOnChip
 power-on-forgets c = simp and-zero-r
 
 -- every reset of every record is sound
 pub reset-sound : (k : Reset) (c : Chip) → soundChip (chipAfter k c) ≡ true
 unfolding soundChip
 reset-sound PowerOn c = simp and-zero-r
-reset-sound ChipReset c = simp (and-zero-r, masked-lacks 0xfc 0 (c .registers .usbctl) 0x03 refl refl)
-reset-sound BusReset c = simp (and-zero-r, masked-lacks 0xfc 0 (c .registers .usbctl) 0x03 refl refl, masked-lacks 0x01 0 (c .registers .cpuctl) 0xfe refl refl)
+reset-sound ChipReset c = simp (and-zero-r, lacks-masked-cleared 0xfc 0 (c .registers .usbctl) 0x03 refl refl)
+reset-sound BusReset c = simp (and-zero-r, lacks-masked-cleared 0xfc 0 (c .registers .usbctl) 0x03 refl refl, lacks-masked-cleared 0x01 0 (c .registers .cpuctl) 0xfe refl refl)
 
-pub power-on-sound : soundChip powerOn ≡ true
-unfolding soundChip powerOn
+pub power-on-sound : soundChip powerOnChip ≡ true
+unfolding soundChip powerOnChip
 power-on-sound = refl
 
 -- nothing waits

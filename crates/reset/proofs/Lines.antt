@@ -1,5 +1,5 @@
 -- Every line that document 01 names follows from the table, and no reset sets a bit that a register does not have: one
--- computed test over each list, and one law that turns it into the fact. Assumes nothing.
+-- computed test over each list, and one law that turns it into the fact.
 use mathlib.Core.Path.{_≡_, refl, ap, _∙_}
 use mathlib.Core.Bool.{Bool, true, _&&_}
 use Prim.Native.Nat.{ℕ, _+_, _-_, _≤_, _<_, min, max}
@@ -10,26 +10,27 @@ use borrow.Author.Tests.{eqb-true, leb-true, ltb-true}
 use Rattle.bits.specs.Bit.{bit, lacks}
 use Rattle.bits.proofs.Cases.{and-true}
 use Rattle.bits.proofs.Bit.{bit-lt, bit-masked}
-use Rattle.bits.proofs.Mask.{lacks-masked}
+use Rattle.bits.proofs.Mask.{lacks-masked-kept}
 use Rattle.bits.proofs.Every.{every, every-at}
 use Rattle.chip.specs.declared.Chip.{Chip}
-use Rattle.chip.specs.Record.{controlRead}
+use Rattle.chip.specs.Mask.{unusedOf}
+use Rattle.chip.specs.Record.{controlRegister}
 use Rattle.reset.specs.declared.Reset.{Reset}
 use Rattle.reset.specs.declared.Reset.the-variants.{PowerOn, ChipReset, BusReset}
 use Rattle.reset.specs.declared.Line.{Line}
 use Rattle.reset.specs.Table.{rowOf, lineOf}
 use Rattle.reset.specs.Reset.{chipAfter}
-use Rattle.reset.specs.Lines.{Outcome, one, kept, outcome, Claim, claim, Holds, seenThere, unusedOf}
+use Rattle.reset.specs.Lines.{Fate, one, kept, fateOf, Claim, claim, Holds, seenThere}
 use Rattle.reset.proofs.Law.{reset-law}
 
 -- ---- the lines of document 01
 
--- what a line must say of bit b for an outcome
-says : Outcome → Line → ℕ → Bool
+-- what a line must say of bit b for a fate
+says : Fate → Line → ℕ → Bool
 says one l b = eqb (bit (l .value) b) 1
 says kept l b = eqb (bit (l .keep) b) 1 && eqb (bit (l .value) b) 0
 
-says-so : (o : Outcome) (l : Line) (b x : ℕ) → says o l b ≡ true → max (min (bit x b) (bit (l .keep) b)) (bit (l .value) b) ≡ outcome o (bit x b)
+says-so : (o : Fate) (l : Line) (b x : ℕ) → says o l b ≡ true → max (min (bit x b) (bit (l .keep) b)) (bit (l .value) b) ≡ fateOf o (bit x b)
 unfolding says
 says-so one l b x t =
     let v : bit (l .value) b ≡ 1 = eqb-true (bit (l .value) b) 1 t in
@@ -50,7 +51,7 @@ right-holds a t c =
     let p = and-true (leb 5 (a .register) && ltb (a .register) 21) _ t in
     let q = and-true (leb 5 (a .register)) (ltb (a .register) 21) (p .0) in
     let l : Line = lineOf (rowOf (a .register)) (a .reset) in
-    let x : ℕ = controlRead c (a .register) in
+    let x : ℕ = controlRegister c (a .register) in
     ap (λ (n : ℕ). bit n (a .bitNumber)) (reset-law (a .reset) c (a .register) (leb-true 5 (a .register) (q .0)) (ltb-true (a .register) 21 (q .1)))
     ∙ bit-masked (l .keep) (l .value) x (a .bitNumber)
     ∙ says-so (a .becomes) l (a .bitNumber) x (p .1)
@@ -80,10 +81,10 @@ none-set BusReset = refl
 
 -- unused bits stay 0 under every reset
 pub unused-stay : (k : Reset) (c : Chip) (n : ℕ) → 5 ≤ n → n < 21
-    → lacks (controlRead c n) (unusedOf n) ≡ true → lacks (controlRead (chipAfter k c) n) (unusedOf n) ≡ true
+    → lacks (controlRegister c n) (unusedOf n) ≡ true → lacks (controlRegister (chipAfter k c) n) (unusedOf n) ≡ true
 unfolding sets-none
 unused-stay k c n h l g =
     let number : n - 5 + 5 ≡ n = omega arith in
     let none : sets-none k n ≡ true = rw number at (every-at (λ i. sets-none k (i + 5)) 16 (none-set k) (n - 5) (omega arith)) in
     ap (λ (x : ℕ). lacks x (unusedOf n)) (reset-law k c n h l)
-    ∙ lacks-masked (lineOf (rowOf n) k .keep) (lineOf (rowOf n) k .value) (controlRead c n) (unusedOf n) none g
+    ∙ lacks-masked-kept (lineOf (rowOf n) k .keep) (lineOf (rowOf n) k .value) (controlRegister c n) (unusedOf n) none g

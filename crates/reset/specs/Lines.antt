@@ -1,38 +1,37 @@
--- What document 01 names of the reset lines ("Seen there"), and the bits that a register does not have.
--- Assumes nothing.
+-- What document 01 names of the reset lines ("Seen there").
 use mathlib.Core.Path.{_≡_}
 use mathlib.Core.List.{List, [], _∷_}
-use Prim.Native.Nat.{ℕ, _-_}
-use lib.ListN.{getD}
+use Prim.Native.Nat.{ℕ}
 use Rattle.bits.specs.Bit.{bit}
 use Rattle.chip.specs.declared.Chip.{Chip}
-use Rattle.chip.specs.Record.{controlRead}
+use Rattle.chip.specs.Record.{controlRegister}
 use Rattle.reset.specs.declared.Reset.{Reset}
 use Rattle.reset.specs.declared.Reset.the-variants.{PowerOn, ChipReset, BusReset}
 use Rattle.reset.specs.Reset.{chipAfter}
 
-pub data Outcome : Type 0 where
-  one kept : Outcome
+-- what becomes of a bit
+pub data Fate : Type 0 where
+  one kept : Fate
 
-abbrev pub outcome : Outcome → ℕ → ℕ
-outcome one x = 1
-outcome kept x = x
+abbrev pub fateOf : Fate → ℕ → ℕ
+fateOf one x = 1
+fateOf kept x = x
 
 -- at this reset, bit b of register n becomes 1 or keeps its value
 pub record Claim : Type 0 where
   pub reset : Reset
   pub register : ℕ
   pub bitNumber : ℕ
-  pub becomes : Outcome
+  pub becomes : Fate
 
-abbrev pub claim : Reset → ℕ → ℕ → Outcome → Claim
+abbrev pub claim : Reset → ℕ → ℕ → Fate → Claim
 claim k n b o = record { reset = k; register = n; bitNumber = b; becomes = o }
 
 -- the claim holds of every record
 abbrev pub Holds : Claim → Type 0
 Holds l =
-    (c : Chip) → bit (controlRead (chipAfter (l .reset) c) (l .register)) (l .bitNumber)
-    ≡ outcome (l .becomes) (bit (controlRead c (l .register)) (l .bitNumber))
+    (c : Chip) → bit (controlRegister (chipAfter (l .reset) c) (l .register)) (l .bitNumber)
+    ≡ fateOf (l .becomes) (bit (controlRegister c (l .register)) (l .bitNumber))
 
 abbrev pub seenThere : List Claim
 seenThere =
@@ -46,10 +45,3 @@ seenThere =
     claim ChipReset 17 4 kept ∷ claim ChipReset 15 3 kept ∷ claim ChipReset 15 4 kept ∷
     -- URESDNIRQ, URESDNIE and URESIE keep theirs at a bus reset (decision 7), where URESIRQ becomes 1
     claim BusReset 13 7 kept ∷ claim BusReset 14 7 kept ∷ claim BusReset 14 3 kept ∷ claim BusReset 13 3 one ∷ []
-
--- the bits that R5 to R20 do not have (000, register map: printed 0)
-abbrev pub unused : List ℕ
-unused = 0x80 ∷ 0x80 ∷ 0x80 ∷ 0x80 ∷ 0x80 ∷ 0x1f ∷ 0xc0 ∷ 0xc0 ∷ 0 ∷ 0 ∷ 0x03 ∷ 0xfe ∷ 0 ∷ 0xf0 ∷ 0x80 ∷ 0 ∷ []
-
-abbrev pub unusedOf : ℕ → ℕ
-unusedOf n = getD unused (n - 5) 0

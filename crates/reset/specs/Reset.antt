@@ -1,6 +1,5 @@
 -- The three resets of the whole record (document 01, "Reset lines"). Registers and counts go by the table; all resets
 -- empty the waiting packets and set positions to 0 and toggles to DATA0 (h: no SETUP is then current).
--- Assumes nothing.
 use mathlib.Core.Bool.{Bool, true, false, cond}
 use mathlib.Core.List.{List}
 use Prim.Native.Nat.{ℕ}
@@ -12,10 +11,12 @@ use Rattle.chip.specs.declared.Endpoint1.{Endpoint1}
 use Rattle.chip.specs.declared.Endpoint2.{Endpoint2}
 use Rattle.chip.specs.declared.Endpoint3.{Endpoint3}
 use Rattle.chip.specs.declared.Registers.{Registers}
+use Rattle.chip.specs.declared.Power.{Power}
 use Rattle.chip.specs.declared.Chip.{Chip}
+use Rattle.chip.specs.Record.{bytesOf, ofBytes}
 use Rattle.reset.specs.declared.Reset.{Reset}
 use Rattle.reset.specs.declared.Reset.the-variants.{PowerOn, ChipReset, BusReset}
-use Rattle.reset.specs.Table.{registerAfter}
+use Rattle.reset.specs.Table.{registerAfter, allAfter}
 
 -- buffer bytes become 0 at power-on and chip reset, and stay at a bus reset
 abbrev pub wipes : Reset → Bool
@@ -53,20 +54,9 @@ ep2After k e = record { ring = ringAfter k (e .ring); count = registerAfter k 7 
 abbrev pub ep3After : Reset → Endpoint3 → Endpoint3
 ep3After k e = record { bytes = bytesAfter k 64 (e .bytes); count = registerAfter k 8 (e .count); armed = false; writepos = 0; toggle = false }
 
+-- R9 to R20 by the one rule
 abbrev pub registersAfter : Reset → Registers → Registers
-registersAfter k g = record {
-  epstalls = registerAfter k 9 (g .epstalls);
-  clrtogs = registerAfter k 10 (g .clrtogs);
-  epirq = registerAfter k 11 (g .epirq);
-  epien = registerAfter k 12 (g .epien);
-  usbirq = registerAfter k 13 (g .usbirq);
-  usbien = registerAfter k 14 (g .usbien);
-  usbctl = registerAfter k 15 (g .usbctl);
-  cpuctl = registerAfter k 16 (g .cpuctl);
-  pinctl = registerAfter k 17 (g .pinctl);
-  fnaddr = registerAfter k 19 (g .fnaddr);
-  iopins = registerAfter k 20 (g .iopins);
-}
+registersAfter k g = ofBytes (allAfter k 9 (bytesOf g))
 
 -- the VBUS level is 0 at power-on and kept otherwise
 abbrev pub vbusAfter : Reset → Bool → Bool
@@ -80,6 +70,9 @@ oscokAfter PowerOn b = false
 oscokAfter ChipReset b = false
 oscokAfter BusReset b = b
 
+abbrev pub powerAfter : Reset → Power → Power
+powerAfter k p = record { vbus = vbusAfter k (p .vbus); oscok = oscokAfter k (p .oscok) }
+
 abbrev pub chipAfter : Reset → Chip → Chip
 chipAfter k c = record {
   ep0 = ep0After k (c .ep0);
@@ -87,6 +80,5 @@ chipAfter k c = record {
   ep2 = ep2After k (c .ep2);
   ep3 = ep3After k (c .ep3);
   registers = registersAfter k (c .registers);
-  vbus = vbusAfter k (c .vbus);
-  oscok = oscokAfter k (c .oscok);
+  power = powerAfter k (c .power);
 }

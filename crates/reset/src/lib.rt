@@ -4,12 +4,13 @@ use chip::Endpoint0;
 use chip::Endpoint1;
 use chip::Endpoint2;
 use chip::Endpoint3;
+use chip::Power;
 use chip::Registers;
 use ring::Ring;
 ghost use mathlib.Core.Path.{_≡_};
 ghost use Prim.Native.Nat.{_≤_, _<_};
 ghost use Rattle.reset.specs.Table.{rowOf, lineOf, registerAfter};
-ghost use Rattle.reset.specs.Reset.{wipes, bytesAfter, ringAfter, ep0After, ep1After, ep2After, ep3After, registersAfter, vbusAfter, oscokAfter, chipAfter};
+ghost use Rattle.reset.specs.Reset.{wipes, bytesAfter, ringAfter, ep0After, ep1After, ep2After, ep3After, registersAfter, powerAfter, chipAfter};
 
 pub enum Reset {
     PowerOn,
@@ -264,23 +265,20 @@ fn ep3_after(reset: Reset, e: Endpoint3) -> Endpoint3
     }
 }
 
-fn vbus_after(reset: Reset, vbus: bool) -> bool
-    ensures { λ r. ⌜ r ≡ vbusAfter reset vbus ⌝ }
+// VBUS is lost at power-on, the oscillator stops at power-on and chip reset.
+fn power_after(reset: Reset, power: Power) -> Power
+    ensures { λ r. ⌜ r ≡ powerAfter reset power ⌝ }
 {
     match reset {
-        Reset::PowerOn => false,
-        Reset::ChipReset => vbus,
-        Reset::BusReset => vbus,
-    }
-}
-
-fn oscok_after(reset: Reset, oscok: bool) -> bool
-    ensures { λ r. ⌜ r ≡ oscokAfter reset oscok ⌝ }
-{
-    match reset {
-        Reset::PowerOn => false,
-        Reset::ChipReset => false,
-        Reset::BusReset => oscok,
+        Reset::PowerOn => Power {
+            vbus: false,
+            oscok: false,
+        },
+        Reset::ChipReset => Power {
+            vbus: power.vbus,
+            oscok: false,
+        },
+        Reset::BusReset => power,
     }
 }
 
@@ -293,13 +291,13 @@ pub fn chip_after(reset: Reset, chip: Chip) -> Chip
     let c = chip.ep2;
     let d = chip.ep3;
     let g = chip.registers;
+    let p = chip.power;
     Chip {
         ep0: ep0_after(reset, a),
         ep1: ep1_after(reset, b),
         ep2: ep2_after(reset, c),
         ep3: ep3_after(reset, d),
         registers: registers_after(reset, g),
-        vbus: vbus_after(reset, chip.vbus),
-        oscok: oscok_after(reset, chip.oscok),
+        power: power_after(reset, p),
     }
 }

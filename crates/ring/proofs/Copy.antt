@@ -1,5 +1,4 @@
 -- What a copy of a whole slice does to the list around its target, and what it hands out. Any lists.
--- Assumes nothing.
 use mathlib.Core.Path.{_≡_, sym, ap, _∙_}
 use mathlib.Core.List.{List, _++_, append-assoc, append-nil}
 use Prim.Native.Nat.{ℕ, _+_, _-_, _≤_}

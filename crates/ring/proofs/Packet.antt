@@ -1,5 +1,5 @@
 -- The packet in one buffer of a flat array of 64-byte buffers: its bytes, its length, and which stores leave it.
--- Any number of buffers. Assumes nothing.
+-- Any number of buffers.
 use mathlib.Core.Path.{_≡_, refl, ap, _∙_}
 use mathlib.Core.Logic.{_≢_}
 use mathlib.Core.List.{List, [], _∷_, _++_, append-assoc}

@@ -1,4 +1,4 @@
--- Places of a ring of n buffers, counted round: two at a distance below n are two buffers. Assumes nothing.
+-- Places of a ring of n buffers, counted round: two at a distance below n are two buffers.
 use mathlib.Core.Path.{_≡_, sym, ap, _∙_}
 use mathlib.Core.Logic.{_≢_}
 use Prim.Native.Nat.{ℕ, suc, _+_, _-_, _%_, _≤_, _<_}

@@ -1,5 +1,5 @@
 -- The packets of k buffers from a place on: how many, one more at the end, which changes leave them.
--- Any number n of buffers. Assumes nothing.
+-- Any number n of buffers.
 use mathlib.Core.Path.{_≡_, refl, sym, ap, ap₂, _∙_}
 use mathlib.Core.List.{List, [], _∷_, _++_}
 use Prim.Native.Nat.{ℕ, zero, suc, _+_, _%_, _<_}

@@ -1,10 +1,11 @@
--- A ring of n buffers of 64 bytes in one flat array, which serve in turn: what waits in it, and what each operation makes
--- of it. The record has two buffers (endpoints 1 and 2); a single buffer is a ring of one. Document 01: "endpoint 2's
--- buffers, like endpoint 1's, serve in turn"; 000 pages 13, 42.
--- Assumes nothing.
-use mathlib.Core.Bool.{Bool, cond}
-use mathlib.Core.List.{List, [], _∷_}
-use Prim.Native.Nat.{ℕ, zero, suc, _+_, _-_, _*_, _%_}
+-- A ring of n buffers of 64 bytes in one flat array, which serve in turn: what waits in it, what each operation makes of it,
+-- and when it is sound. The record has two such buffers (endpoints 1 and 2); a single buffer is a ring of one (endpoints 0 and
+-- 3). Document 01: "endpoint 2's buffers, like endpoint 1's, serve in turn"; 000 pages 13, 42. The tests that decide whether an
+-- operation is made stand in the rule that makes it.
+use mathlib.Core.Path.{_≡_}
+use mathlib.Core.Bool.{Bool, true, cond}
+use mathlib.Core.List.{List, [], _∷_, _++_}
+use Prim.Native.Nat.{ℕ, zero, suc, _+_, _-_, _*_, _%_, _≤_}
 use lib.Dec.{eqb, ltb, leb}
 use lib.ListN.{length, getD, set, take, drop, replicate}
 use lib.Seq.{sets}
@@ -54,26 +55,20 @@ emptyRing = record { bytes = replicate 128 0; counts = replicate 2 0; oldest = 0
 abbrev pub withBytes : Ring → List ℕ → Ring
 withBytes r s = record { bytes = s; counts = r .counts; oldest = r .oldest; waiting = r .waiting }
 
--- a byte at a position of the next buffer; nothing past the buffer's end or in a full ring
-abbrev pub withByte : ℕ → Ring → ℕ → ℕ → Ring
-withByte n r p b = withBytes r (set (r .bytes) (nextBuffer n r * 64 + p) b)
-
+-- a byte at a position of the next buffer
 abbrev pub storeByte : ℕ → Ring → ℕ → ℕ → Ring
-storeByte n r p b = cond (leb 64 p) r (cond (full n r) r (withByte n r p b))
+storeByte n r p b = withBytes r (set (r .bytes) (nextBuffer n r * 64 + p) b)
 
--- the next buffer's first c bytes, as they stand, wait; nothing for a count over 64 or in a full ring
-abbrev pub withNext : ℕ → Ring → ℕ → Ring
-withNext n r c = record { bytes = r .bytes; counts = set (r .counts) (nextBuffer n r) c; oldest = r .oldest; waiting = r .waiting + 1 }
-
+-- the next buffer's first c bytes, as they stand, wait
 abbrev pub armNext : ℕ → Ring → ℕ → Ring
-armNext n r c = cond (ltb 64 c) r (cond (full n r) r (withNext n r c))
+armNext n r c = record { bytes = r .bytes; counts = set (r .counts) (nextBuffer n r) c; oldest = r .oldest; waiting = r .waiting + 1 }
 
--- a payload at the next buffer's start waits, the buffer's rest stays; nothing for over 64 bytes or in a full ring
+-- a payload at the next buffer's start waits, the buffer's rest stays
 abbrev pub withPayload : ℕ → Ring → List ℕ → Ring
 withPayload n r vs = withBytes r (sets (r .bytes) (nextBuffer n r * 64) vs)
 
 abbrev pub fillNext : ℕ → Ring → List ℕ → Ring
-fillNext n r vs = cond (ltb 64 (length vs)) r (cond (full n r) r (withNext n (withPayload n r vs) (length vs)))
+fillNext n r vs = armNext n (withPayload n r vs) (length vs)
 
 -- the oldest waiting packet goes, if any
 abbrev pub withoutOldest : ℕ → Ring → Ring
@@ -82,13 +77,23 @@ withoutOldest n r = record { bytes = r .bytes; counts = r .counts; oldest = (r .
 abbrev pub releaseOldest : ℕ → Ring → Ring
 releaseOldest n r = cond (eqb (r .waiting) 0) r (withoutOldest n r)
 
--- ---- a single buffer, armed or not, is a ring of one (endpoints 0 and 3)
+-- ---- a single buffer, armed or not, is a ring of one
 
 abbrev pub single : List ℕ → ℕ → Bool → Ring
 single s c armed = record { bytes = s; counts = c ∷ []; oldest = 0; waiting = cond armed 1 0 }
 
--- ---- soundness of a ring of two (document 01, "It is sound when")
+-- ---- soundness (document 01, "It is sound when"): counts are 0..64, 0..n wait; and, ours, the oldest is one of the n buffers
 
--- both counts are 0..64, the oldest is one of the two buffers, 0..2 wait
-abbrev pub soundRing : Ring → Bool
-soundRing r = clauses (leb (getD (r .counts) 0 0) 64 ∷ leb (getD (r .counts) 1 0) 64 ∷ ltb (r .oldest) 2 ∷ leb (r .waiting) 2 ∷ [])
+-- the counts of k buffers from buffer i on
+abbrev pub soundCounts : List ℕ → ℕ → ℕ → List Bool
+soundCounts cs i zero = []
+soundCounts cs i (suc k) = leb (getD cs i 0) 64 ∷ soundCounts cs (suc i) k
+
+abbrev pub soundRing : ℕ → Ring → Bool
+soundRing n r = clauses (soundCounts (r .counts) 0 n ++ (ltb (r .oldest) n ∷ leb (r .waiting) n ∷ []))
+
+-- and there is room for n buffers, which the record's type says of two
+pub record Fits (n : ℕ) (r : Ring) : Type 0 where
+  pub room : n * 64 ≤ length (r .bytes)
+  pub places : n ≤ length (r .counts)
+  pub sound : soundRing n r ≡ true

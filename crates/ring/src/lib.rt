@@ -1,10 +1,10 @@
-// The two buffers of a double-buffered endpoint, which serve in turn. Every operation is total: what has no room, or no
-// place, leaves the ring as it is. A function has the name of the definition that its promise cites.
+// The two buffers of a double-buffered endpoint, which serve in turn. A function has the name of the definition that its
+// promise cites; what it requires, the rule that makes the operation has tested.
 ghost use mathlib.Core.Path.{_≡_};
 ghost use mathlib.Core.List.{_++_};
 ghost use Prim.Native.Nat.{_<_, _≤_};
 ghost use lib.ListN.{length, getD, drop};
-ghost use Rattle.ring.specs.Ring.{emptyRing, drained, soundRing, nextBuffer, oldestCount, oldestPacket, storeByte, withNext, armNext, fillNext, releaseOldest};
+ghost use Rattle.ring.specs.Ring.{emptyRing, drained, soundRing, nextBuffer, oldestCount, oldestPacket, storeByte, armNext, fillNext, releaseOldest};
 
 pub struct Ring {
     // Buffer i stands at 64 * i.
@@ -38,7 +38,7 @@ impl Ring {
     }
 
     pub fn is_sound(self) -> bool
-        ensures { λ r. ⌜ r ≡ soundRing self ⌝ }
+        ensures { λ r. ⌜ r ≡ soundRing 2 self ⌝ }
     {
         (self.counts[0] <= 64) & (self.counts[1] <= 64) & (self.oldest < 2) & (self.waiting <= 2)
     }
@@ -50,24 +50,20 @@ impl Ring {
         (self.oldest as usize + self.waiting as usize) % 2
     }
 
+    // The byte at a position of the next buffer.
     pub fn store_byte(mut self, position: u8, byte: u8) -> Self
+        requires { ⌜ position < 64 ⌝ }
         ensures { λ r. ⌜ r ≡ storeByte 2 self position byte ⌝ }
     {
-        if 64 <= position {
-            return self;
-        }
-        if 2 <= self.waiting {
-            return self;
-        }
         let at = self.next_buffer() * 64 + position as usize;
         self.bytes[at] = byte;
         self
     }
 
     // The next buffer's first bytes, as they stand, wait.
-    fn push_next(mut self, count: u8) -> Self
+    pub fn arm_next(mut self, count: u8) -> Self
         requires { ⌜ self .waiting < 2 ⌝ }
-        ensures { λ r. ⌜ r ≡ withNext 2 self count ⌝ }
+        ensures { λ r. ⌜ r ≡ armNext 2 self count ⌝ }
     {
         let buffer = self.next_buffer();
         self.counts[buffer] = count;
@@ -75,32 +71,16 @@ impl Ring {
         self
     }
 
-    pub fn arm_next(self, count: u8) -> Self
-        ensures { λ r. ⌜ r ≡ armNext 2 self count ⌝ }
-    {
-        if 64 < count {
-            return self;
-        }
-        if 2 <= self.waiting {
-            return self;
-        }
-        self.push_next(count)
-    }
-
+    // A payload at the next buffer's start waits.
     pub fn fill_next(mut self, payload: &[u8]) -> Self
+        requires { ⌜ (length (now payload) ≤ 64) × (self .waiting < 2) ⌝ }
         ensures { λ r. ⌜ r ≡ fillNext 2 self (now (payload .entry)) ⌝ }
     {
-        if 64 < payload.len() {
-            return self;
-        }
-        if 2 <= self.waiting {
-            return self;
-        }
         let start = self.next_buffer() * 64;
         let mut buffers = self.bytes;
         let count = bytes::copy(payload, &mut buffers[start..]);
         self.bytes = buffers;
-        self.push_next(count as u8)
+        self.arm_next(count as u8)
     }
 
     pub fn release_oldest(mut self) -> Self

@@ -1,7 +1,7 @@
--- What the ledger and the record have in common after every call, and every clause of soundness, in parts over
--- projections alone: a change elsewhere leaves a part as it is. Assumes nothing.
+-- What the ledger and the record have in common after every call, and every clause of soundness, in named parts. A part is over
+-- what it speaks of alone, so a change elsewhere leaves it as it is.
 use mathlib.Core.Path.{_≡_, _∙_}
-use mathlib.Core.Bool.{Bool, false, not}
+use mathlib.Core.Bool.{Bool}
 use mathlib.Core.List.{List, _++_}
 use Prim.Native.Nat.{ℕ, _-_, _≤_}
 use native.Mathlib.Omega.{arith}
@@ -9,57 +9,45 @@ use lib.Dec.{ltb}
 use lib.ListN.{length, length-append}
 use Rattle.bits.specs.Bit.{has}
 use Rattle.ring.specs.declared.Ring.{Ring}
-use Rattle.ring.specs.Ring.{queue, nextBuffer}
-use Rattle.ring.proofs.Laws.{Fits, queue-length, fits-sound}
+use Rattle.ring.specs.Ring.{queue, nextBuffer, Fits}
+use Rattle.ring.proofs.Laws.{queue-length}
 use Rattle.chip.specs.declared.Chip.{Chip}
 use Rattle.chip.specs.Mask.{in2bavirq, in3bavirq, out1davirq}
-use Rattle.chip.proofs.Sound.{Sound}
-use Rattle.rules.specs.Transaction.{lineOf}
+use Rattle.chip.specs.Record.{bytesOf}
+use Rattle.chip.specs.Sound.{unusedRegisters}
+use Rattle.chip.proofs.Sound.{SoundEp0, SoundEp3, Clean, Sound}
+use Rattle.rules.specs.Seen.{connectionOf}
 use Rattle.rules.specs.Ledger.{Ledger, Sender, Receiver, waitingAt2}
 
 -- ---- the parts
 
--- endpoint 2
-pub record Sends (s : Sender) (r : Ring) (writepos count : ℕ) (bav : Bool) : Type 0 where
+-- endpoint 2: its ring, write position w, count n and IN2BAVIRQ
+pub record Sends (s : Sender) (r : Ring) (w n : ℕ) (bav : Bool) : Type 0 where
   pub fits : Fits 2 r
   pub queued : s .armed ≡ s .acknowledged ++ queue 2 r
   pub bytes : s .bytes ≡ r .bytes
   pub turn : s .turn ≡ nextBuffer 2 r
-  pub place : s .writepos ≡ writepos
-  pub within : writepos ≤ 64
-  pub counted : count ≤ 64
-  pub request : bav ≡ ltb (r .waiting) 2
+  pub place : s .writepos ≡ w
+  pub writepos : w ≤ 64
+  pub count : n ≤ 64
+  pub irq : bav ≡ ltb (r .waiting) 2
 
--- endpoint 1
-pub record Receives (s : Receiver) (r : Ring) (readpos : ℕ) (toggle dav : Bool) : Type 0 where
+-- endpoint 1: its ring, read position p, toggle and OUT1DAVIRQ
+pub record Receives (s : Receiver) (r : Ring) (p : ℕ) (toggle dav : Bool) : Type 0 where
   pub fits : Fits 2 r
   pub queued : s .stored ≡ s .released ++ queue 2 r
-  pub toggles : s .toggle ≡ toggle
-  pub within : readpos ≤ 64
-  pub request : dav ≡ ltb 0 (r .waiting)
+  pub toggled : s .toggle ≡ toggle
+  pub readpos : p ≤ 64
+  pub irq : dav ≡ ltb 0 (r .waiting)
 
--- endpoint 0
-pub record Control (count readpos writepos setuppos : ℕ) : Type 0 where
-  pub counted : count ≤ 64
-  pub reads : readpos ≤ 64
-  pub writes : writepos ≤ 64
-  pub setup : setuppos ≤ 8
-
--- endpoint 3
-pub record Single (count writepos : ℕ) (armed bav : Bool) : Type 0 where
-  pub counted : count ≤ 64
-  pub within : writepos ≤ 64
-  pub request : bav ≡ not armed
-
--- unused bits
-pub record Clean (epstalls clrtogs epirq epien usbctl cpuctl fnaddr : ℕ) : Type 0 where
-  pub stalls : has epstalls 0x80 ≡ false
-  pub toggles : has clrtogs 0x1f ≡ false
-  pub requests : has epirq 0xc0 ≡ false
-  pub enables : has epien 0xc0 ≡ false
-  pub control : has usbctl 0x03 ≡ false
-  pub cpu : has cpuctl 0xfe ≡ false
-  pub address : fnaddr ≤ 127
+-- all of them
+pub record Parts (S R C A D U : Type 0) : Type 0 where
+  pub sends : S
+  pub receives : R
+  pub connection : C
+  pub ep0 : A
+  pub ep3 : D
+  pub unused : U
 
 -- ---- of a ledger and a record
 
@@ -69,19 +57,33 @@ SendsOf l c = Sends (l .sender) (c .ep2 .ring) (c .ep2 .writepos) (c .ep2 .count
 abbrev pub ReceivesOf : Ledger → Chip → Type 0
 ReceivesOf l c = Receives (l .receiver) (c .ep1 .ring) (c .ep1 .readpos) (c .ep1 .toggle) (has (c .registers .epirq) out1davirq)
 
-abbrev pub ControlOf : Chip → Type 0
-ControlOf c = Control (c .ep0 .count) (c .ep0 .readpos) (c .ep0 .writepos) (c .ep0 .setuppos)
-
-abbrev pub SingleOf : Chip → Type 0
-SingleOf c = Single (c .ep3 .count) (c .ep3 .writepos) (c .ep3 .armed) (has (c .registers .epirq) in3bavirq)
-
-abbrev pub CleanOf : Chip → Type 0
-CleanOf c =
-    Clean (c .registers .epstalls) (c .registers .clrtogs) (c .registers .epirq) (c .registers .epien) (c .registers .usbctl) (c .registers .cpuctl)
-    (c .registers .fnaddr)
-
 abbrev pub Agree : Ledger → Chip → Type 0
-Agree l c = SendsOf l c × ReceivesOf l c × (l .line ≡ lineOf c) × ControlOf c × SingleOf c × CleanOf c
+Agree l c =
+    Parts (SendsOf l c) (ReceivesOf l c) (l .connection ≡ connectionOf c)
+    (SoundEp0 (c .ep0 .count) (c .ep0 .readpos) (c .ep0 .writepos) (c .ep0 .setuppos))
+    (SoundEp3 (c .ep3 .count) (c .ep3 .writepos) (c .ep3 .armed) (has (c .registers .epirq) in3bavirq))
+    (Clean (bytesOf (c .registers)) unusedRegisters)
+
+-- ---- one part replaced
+
+module _ {S R C A D U : Type 0} (i : Parts S R C A D U) where
+  pub with-sends : {S′ : Type 0} → S′ → Parts S′ R C A D U
+  with-sends x = record { sends = x; receives = i .receives; connection = i .connection; ep0 = i .ep0; ep3 = i .ep3; unused = i .unused }
+
+  pub with-receives : {R′ : Type 0} → R′ → Parts S R′ C A D U
+  with-receives x = record { sends = i .sends; receives = x; connection = i .connection; ep0 = i .ep0; ep3 = i .ep3; unused = i .unused }
+
+  pub with-connection : {C′ : Type 0} → C′ → Parts S R C′ A D U
+  with-connection x = record { sends = i .sends; receives = i .receives; connection = x; ep0 = i .ep0; ep3 = i .ep3; unused = i .unused }
+
+  pub with-ep0 : {A′ : Type 0} → A′ → Parts S R C A′ D U
+  with-ep0 x = record { sends = i .sends; receives = i .receives; connection = i .connection; ep0 = x; ep3 = i .ep3; unused = i .unused }
+
+  pub with-ep3 : {D′ : Type 0} → D′ → Parts S R C A D′ U
+  with-ep3 x = record { sends = i .sends; receives = i .receives; connection = i .connection; ep0 = i .ep0; ep3 = x; unused = i .unused }
+
+  pub with-unused : {U′ : Type 0} → U′ → Parts S R C A D U′
+  with-unused x = record { sends = i .sends; receives = i .receives; connection = i .connection; ep0 = i .ep0; ep3 = i .ep3; unused = x }
 
 -- ---- consequences
 
@@ -95,25 +97,9 @@ waiting-is l c i = waits-is (l .sender .armed) (l .sender .acknowledged) (queue 
 -- every clause of soundness holds
 pub agree-sound : (l : Ledger) (c : Chip) → Agree l c → Sound c
 agree-sound l c i = record {
-  count0 = i .3 .counted;
-  readpos0 = i .3 .reads;
-  writepos0 = i .3 .writes;
-  setuppos = i .3 .setup;
-  ring1 = fits-sound (c .ep1 .ring) (i .1 .fits);
-  readpos1 = i .1 .within;
-  ring2 = fits-sound (c .ep2 .ring) (i .0 .fits);
-  count2 = i .0 .counted;
-  writepos2 = i .0 .within;
-  count3 = i .4 .counted;
-  writepos3 = i .4 .within;
-  epstalls = i .5 .stalls;
-  clrtogs = i .5 .toggles;
-  epirq = i .5 .requests;
-  epien = i .5 .enables;
-  usbctl = i .5 .control;
-  cpuctl = i .5 .cpu;
-  fnaddr = i .5 .address;
-  in2bav = i .0 .request;
-  in3bav = i .4 .request;
-  out1dav = i .1 .request;
+  ep0 = i .ep0;
+  ep1 = record { ring = i .receives .fits .sound; readpos = i .receives .readpos; irq = i .receives .irq };
+  ep2 = record { ring = i .sends .fits .sound; count = i .sends .count; writepos = i .sends .writepos; irq = i .sends .irq };
+  ep3 = i .ep3;
+  unused = i .unused;
 }

@@ -1,25 +1,27 @@
--- Every bench case and every worked example holds of the rules, by computation. Assumes nothing.
+-- Every bench case and every worked example holds of the rules, by computation.
 use mathlib.Core.Path.{_≡_, refl}
 use mathlib.Core.Bool.{false}
 use mathlib.Core.List.{map, _++_}
-use Rattle.chip.specs.Record.{powerOn}
+use Rattle.chip.specs.Record.{powerOnChip}
 use Rattle.chip.specs.Sound.{soundChip}
-use Rattle.chip.specs.Pin.{pinAnswer, pinLevel}
+use Rattle.chip.specs.Pin.{pinReply, pinOf}
+use Rattle.chip.specs.Same.{sameChip}
 use Rattle.request.specs.Request.{decisionOf}
-use Rattle.firmware.specs.Answer.{answerOf as firmwareAnswer, servedOf}
-use Rattle.rules.specs.Call.{answerOf, afterOf}
+use Rattle.firmware.specs.Answer.{handled, servedOf}
+use Rattle.model.specs.Spi.{burstTo, burstOf}
+use Rattle.model.specs.Call.{answerOf, callTo}
 use Rattle.rules.specs.Bench.{played, cases, on, packetsOf}
 use Rattle.rules.specs.Examples.{examples}
 
 pub bench : map played cases ≡ cases
-unfolding powerOn soundChip pinAnswer pinLevel answerOf afterOf firmwareAnswer servedOf decisionOf
+unfolding powerOnChip soundChip pinReply pinOf sameChip burstTo burstOf answerOf callTo handled servedOf decisionOf
 bench = refl
 
 pub examples-hold : map played examples ≡ examples
-unfolding powerOn soundChip pinAnswer pinLevel answerOf afterOf firmwareAnswer servedOf decisionOf
+unfolding powerOnChip soundChip pinReply pinOf sameChip burstTo burstOf answerOf callTo handled servedOf decisionOf
 examples-hold = refl
 
--- a run of 304 calls
+-- a run of 303 calls
 pub long-run : played (on ++ packetsOf false 100) ≡ on ++ packetsOf false 100
-unfolding powerOn soundChip pinAnswer pinLevel answerOf afterOf firmwareAnswer servedOf decisionOf
+unfolding powerOnChip soundChip pinReply pinOf sameChip burstTo burstOf answerOf callTo handled servedOf decisionOf
 long-run = refl

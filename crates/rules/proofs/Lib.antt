@@ -1,10 +1,12 @@
-pub mod Bench
 pub mod Agree
-pub mod Requests
+pub mod Irqs
 pub mod Resets
 pub mod Writes
 pub mod Reading
 pub mod Events
-pub mod Tables
-pub mod Refusals
+pub mod Outs
+pub mod Ins
+pub mod Lawful
 pub mod Theorem
+pub mod Single
+pub mod Bench

@@ -1,4 +1,4 @@
--- A reset of the record and of the ledger keeps the agreement. Assumes nothing.
+-- A reset of the record and of the ledger keeps the agreement.
 use mathlib.Core.Path.{_≡_, refl, sym, ap, _∙_, subst}
 use mathlib.Core.Bool.{false}
 use mathlib.Core.List.{List}
@@ -8,8 +8,8 @@ use lib.Dec.{ltb}
 use lib.ListN.{length}
 use Rattle.bits.specs.Bit.{has}
 use Rattle.ring.specs.declared.Ring.{Ring}
-use Rattle.ring.specs.Ring.{drained, withBytes}
-use Rattle.ring.proofs.Laws.{Fits, fits-drained}
+use Rattle.ring.specs.Ring.{drained, withBytes, Fits}
+use Rattle.ring.proofs.Laws.{fits-drained}
 use Rattle.chip.specs.declared.Chip.{Chip}
 use Rattle.chip.specs.Mask.{in2bavirq, out1davirq}
 use Rattle.chip.proofs.Sound.{Sound, sound-clauses}
@@ -17,7 +17,7 @@ use Rattle.reset.specs.declared.Reset.{Reset}
 use Rattle.reset.specs.declared.Reset.the-variants.{PowerOn, ChipReset, BusReset}
 use Rattle.reset.specs.Reset.{bytesAfter, ringAfter, chipAfter}
 use Rattle.reset.proofs.Effects.{reset-sound}
-use Rattle.rules.specs.Ledger.{Ledger, lineAfter, ledgerAfter}
+use Rattle.rules.specs.Ledger.{Ledger, connectionAfter, ledgerAfter}
 use Rattle.rules.proofs.Agree.{Sends, Receives, SendsOf, ReceivesOf, Agree}
 
 -- a ring after a reset: drained, its bytes by the rule for bytes
@@ -44,14 +44,14 @@ module _ (k : Reset) (l : Ledger) (c : Chip) (i : Agree l c) where
       subst (λ (r : Ring). Sends (ledgerAfter k l .sender) r 0 (chipAfter k c .ep2 .count) (has (chipAfter k c .registers .epirq) in2bavirq))
       (ring-after k (c .ep2 .ring))
       (record {
-        fits = fits-after k (c .ep2 .ring) (i .0 .fits);
+        fits = fits-after k (c .ep2 .ring) (i .sends .fits);
         queued = refl;
-        bytes = ap (bytesAfter k 128) (i .0 .bytes);
+        bytes = ap (bytesAfter k 128) (i .sends .bytes);
         turn = refl;
         place = refl;
-        within = omega arith;
-        counted = clauses .count2;
-        request = clauses .in2bav ∙ ap (λ (r : Ring). ltb (r .waiting) 2) (sym (ring-after k (c .ep2 .ring)));
+        writepos = omega arith;
+        count = clauses .ep2 .count;
+        irq = clauses .ep2 .irq ∙ ap (λ (r : Ring). ltb (r .waiting) 2) (sym (ring-after k (c .ep2 .ring)));
       })
 
   receives : ReceivesOf (ledgerAfter k l) (chipAfter k c)
@@ -59,28 +59,19 @@ module _ (k : Reset) (l : Ledger) (c : Chip) (i : Agree l c) where
       subst (λ (r : Ring). Receives (ledgerAfter k l .receiver) r 0 false (has (chipAfter k c .registers .epirq) out1davirq))
       (ring-after k (c .ep1 .ring))
       (record {
-        fits = fits-after k (c .ep1 .ring) (i .1 .fits);
+        fits = fits-after k (c .ep1 .ring) (i .receives .fits);
         queued = refl;
-        toggles = refl;
-        within = omega arith;
-        request = clauses .out1dav ∙ ap (λ (r : Ring). ltb 0 (r .waiting)) (sym (ring-after k (c .ep1 .ring)));
+        toggled = refl;
+        readpos = omega arith;
+        irq = clauses .ep1 .irq ∙ ap (λ (r : Ring). ltb 0 (r .waiting)) (sym (ring-after k (c .ep1 .ring)));
       })
 
   pub agree-reset : Agree (ledgerAfter k l) (chipAfter k c)
-  agree-reset =
-      let s = clauses in (
-        sends,
-        receives,
-        ap (lineAfter k) (i .2),
-        record { counted = s .count0; reads = s .readpos0; writes = s .writepos0; setup = s .setuppos },
-        record { counted = s .count3; within = s .writepos3; request = s .in3bav },
-        record {
-          stalls = s .epstalls;
-          toggles = s .clrtogs;
-          requests = s .epirq;
-          enables = s .epien;
-          control = s .usbctl;
-          cpu = s .cpuctl;
-          address = s .fnaddr;
-        },
-      )
+  agree-reset = record {
+    sends = sends;
+    receives = receives;
+    connection = ap (connectionAfter k) (i .connection);
+    ep0 = clauses .ep0;
+    ep3 = clauses .ep3;
+    unused = clauses .unused;
+  }

@@ -1,23 +1,26 @@
--- The ledger (document 01's book): what was armed, acknowledged, stored and released, read off the calls and their
--- answers alone. Its rules are those of "The book of demand 3"; it never sees a record.
--- Assumes nothing.
+-- The ledger (document 01's book): what was armed, acknowledged, stored and released, read off the calls and their answers alone.
+-- Its rules are those of "The book of demand 3"; as a book it never sees a record.
 use mathlib.Core.Bool.{Bool, true, false, not, cond, _&&_, Bool·beq}
 use mathlib.Core.List.{List, [], _∷_, _++_}
 use Prim.Native.Nat.{ℕ, _+_, _-_, _*_, _%_}
 use lib.Bits.{bitAnd}
-use lib.Dec.{eqb, ltb, leb}
+use lib.Dec.{eqb, leb}
 use lib.ListN.{length, getD, set, take, drop, replicate}
-use Rattle.bits.specs.Bit.{lacks, has}
+use Rattle.bits.specs.Bit.{lacks, has, rises}
 use Rattle.ring.specs.Ring.{packet}
-use Rattle.chip.specs.Mask.{ctgep1out, out1davirq, chipres}
+use Rattle.chip.specs.declared.Power.{Power}
+use Rattle.chip.specs.Mask.{ctgep1out, out1davirq, usbctlBits, chipres}
+use Rattle.chip.specs.Set.{withVbus, withOscok}
 use Rattle.reset.specs.declared.Reset.{Reset}
 use Rattle.reset.specs.declared.Reset.the-variants.{PowerOn, ChipReset, BusReset}
 use Rattle.reset.specs.Table.{registerAfter}
-use Rattle.reset.specs.Reset.{bytesAfter, vbusAfter, oscokAfter}
-use Rattle.rules.specs.declared.Event.{Event}
-use Rattle.rules.specs.Transfer.{stepRegister, commandRegister, commandWrites}
-use Rattle.rules.specs.Transaction.{Reply, transferred, done, silence, ack, nak, stall, sent, Line, seen}
-use Rattle.rules.specs.Call.{Call, transfer, event, Answer, refused, answered, Entry}
+use Rattle.reset.specs.Reset.{bytesAfter, powerAfter}
+use Rattle.model.specs.declared.Event.{Event}
+use Rattle.model.specs.Reply.{Reply, transferred, done, silence, ack, nak, stall, sent}
+use Rattle.model.specs.Book.{Book}
+use Rattle.rules.specs.Write.{storeFifo, armBuffer}
+use Rattle.rules.specs.Spi.{stepRegister}
+use Rattle.rules.specs.Seen.{Connection, seen}
 
 -- endpoint 2: the lists, its buffers, the next to be armed and the write position
 pub record Sender : Type 0 where
@@ -37,32 +40,29 @@ pub record Receiver : Type 0 where
 pub record Ledger : Type 0 where
   pub sender : Sender
   pub receiver : Receiver
-  pub line : Line
+  pub connection : Connection
 
 abbrev pub setSender : Sender → Ledger → Ledger
-setSender x l = record { sender = x; receiver = l .receiver; line = l .line }
+setSender x l = record { sender = x; receiver = l .receiver; connection = l .connection }
 
 abbrev pub setReceiver : Receiver → Ledger → Ledger
-setReceiver x l = record { sender = l .sender; receiver = x; line = l .line }
+setReceiver x l = record { sender = l .sender; receiver = x; connection = l .connection }
 
-abbrev pub setLine : Line → Ledger → Ledger
-setLine x l = record { sender = l .sender; receiver = l .receiver; line = x }
+abbrev pub setConnection : Connection → Ledger → Ledger
+setConnection x l = record { sender = l .sender; receiver = l .receiver; connection = x }
 
-abbrev pub lineUsbctl : ℕ → Line → Line
-lineUsbctl x l = record { usbctl = x; vbus = l .vbus; oscok = l .oscok }
+abbrev pub notedUsbctl : ℕ → Ledger → Ledger
+notedUsbctl x l = setConnection (record { usbctl = x; power = l .connection .power }) l
 
-abbrev pub lineVbus : Bool → Line → Line
-lineVbus x l = record { usbctl = l .usbctl; vbus = x; oscok = l .oscok }
-
-abbrev pub lineOscok : Bool → Line → Line
-lineOscok x l = record { usbctl = l .usbctl; vbus = l .vbus; oscok = x }
+abbrev pub notedPower : Power → Ledger → Ledger
+notedPower x l = setConnection (record { usbctl = l .connection .usbctl; power = x }) l
 
 -- from power-on: empty lists
 abbrev pub blank : Ledger
 blank = record {
   sender = record { armed = []; acknowledged = []; bytes = replicate 128 0; turn = 0; writepos = 0 };
   receiver = record { stored = []; released = []; toggle = false };
-  line = record { usbctl = 0; vbus = false; oscok = false };
+  connection = record { usbctl = 0; power = record { vbus = false; oscok = false } };
 }
 
 -- armed less acknowledged is how many wait at endpoint 2
@@ -71,14 +71,14 @@ waitingAt2 s = length (s .armed) - length (s .acknowledged)
 
 -- ---- resets that reach the endpoints: lists empty, the rest by the reset rules
 
-abbrev pub lineAfter : Reset → Line → Line
-lineAfter k l = record { usbctl = registerAfter k 15 (l .usbctl); vbus = vbusAfter k (l .vbus); oscok = oscokAfter k (l .oscok) }
+abbrev pub connectionAfter : Reset → Connection → Connection
+connectionAfter k l = record { usbctl = registerAfter k 15 (l .usbctl); power = powerAfter k (l .power) }
 
 abbrev pub ledgerAfter : Reset → Ledger → Ledger
 ledgerAfter k l = record {
   sender = record { armed = []; acknowledged = []; bytes = bytesAfter k 128 (l .sender .bytes); turn = 0; writepos = 0 };
   receiver = record { stored = []; released = []; toggle = false };
-  line = lineAfter k (l .line);
+  connection = connectionAfter k (l .connection);
 }
 
 -- ---- R2, R7, R10 and R15 act by their rules for writes; a 1 written to OUT1DAVIRQ releases
@@ -86,8 +86,8 @@ ledgerAfter k l = record {
 abbrev pub LedgerWrite : Type 0
 LedgerWrite = Ledger → ℕ → Ledger
 
-abbrev pub unnoted : LedgerWrite
-unnoted l b = l
+abbrev pub unnotedWrite : LedgerWrite
+unnotedWrite l b = l
 
 -- R2: the byte is stored at the write position of the buffer in turn, which moves on; ignored at 64, and while two wait
 abbrev pub senderStored : Sender → ℕ → Sender
@@ -100,7 +100,7 @@ senderStored s b = record {
 }
 
 abbrev pub noteEp2infifo : LedgerWrite
-noteEp2infifo l b = cond (leb 64 (l .sender .writepos)) l (cond (leb 2 (waitingAt2 (l .sender))) l (setSender (senderStored (l .sender) b) l))
+noteEp2infifo l b = storeFifo (l .sender .writepos) (leb 2 (waitingAt2 (l .sender))) l (setSender (senderStored (l .sender) b) l)
 
 -- R7: the first n bytes of the buffer in turn, as it stands, join armed; over 64, or while two wait, ignored
 abbrev pub senderArmed : Sender → ℕ → Sender
@@ -113,7 +113,7 @@ senderArmed s n = record {
 }
 
 abbrev pub noteEp2inbc : LedgerWrite
-noteEp2inbc l n = cond (ltb 64 n) l (cond (leb 2 (waitingAt2 (l .sender))) l (setSender (senderArmed (l .sender) n) l))
+noteEp2inbc l n = armBuffer n (leb 2 (waitingAt2 (l .sender))) l (setSender (senderArmed (l .sender) n) l)
 
 -- R10: a 1 in bit 2 sets endpoint 1's toggle to DATA0
 abbrev pub noteClrtogs : LedgerWrite
@@ -124,43 +124,45 @@ noteClrtogs l b =
 abbrev pub oldestKept : Receiver → List (List ℕ)
 oldestKept r = take 1 (drop (length (r .released)) (r .stored))
 
+abbrev pub receiverReleased : Receiver → Receiver
+receiverReleased r = record { stored = r .stored; released = r .released ++ oldestKept r; toggle = r .toggle }
+
 abbrev pub noteEpirq : LedgerWrite
-noteEpirq l b =
-    cond (has b out1davirq)
-    (setReceiver (record { stored = l .receiver .stored; released = l .receiver .released ++ oldestKept (l .receiver); toggle = l .receiver .toggle }) l) l
+noteEpirq l b = cond (has b out1davirq) (setReceiver (receiverReleased (l .receiver)) l) l
 
 -- R15: bits 7..2; CHIPRES going 0 to 1 is a chip reset
-abbrev pub noteUsbctl : LedgerWrite
-noteUsbctl l b =
-    cond (lacks (l .line .usbctl) chipres && has (bitAnd b 0xfc) chipres)
-    (ledgerAfter ChipReset (setLine (lineUsbctl (bitAnd b 0xfc) (l .line)) l))
-    (setLine (lineUsbctl (bitAnd b 0xfc) (l .line)) l)
+abbrev pub noteRise : ℕ → Ledger → Ledger
+noteRise before l = cond (rises chipres before (l .connection .usbctl)) (ledgerAfter ChipReset l) l
 
+abbrev pub noteUsbctl : LedgerWrite
+noteUsbctl l b = noteRise (l .connection .usbctl) (notedUsbctl (bitAnd b usbctlBits) l)
+
+-- R0 to R15; of the registers past them nothing is noted
 abbrev pub ledgerWrites : List LedgerWrite
 ledgerWrites =
-    unnoted ∷ unnoted ∷ noteEp2infifo ∷ unnoted ∷ unnoted ∷ unnoted ∷ unnoted ∷ noteEp2inbc ∷ unnoted ∷ unnoted ∷ noteClrtogs ∷ noteEpirq ∷
-    unnoted ∷ unnoted ∷ unnoted ∷ noteUsbctl ∷ unnoted ∷ unnoted ∷ unnoted ∷ unnoted ∷ unnoted ∷ []
+    unnotedWrite ∷ unnotedWrite ∷ noteEp2infifo ∷ unnotedWrite ∷ unnotedWrite ∷ unnotedWrite ∷ unnotedWrite ∷ noteEp2inbc ∷
+    unnotedWrite ∷ unnotedWrite ∷ noteClrtogs ∷ noteEpirq ∷ unnotedWrite ∷ unnotedWrite ∷ unnotedWrite ∷ noteUsbctl ∷ []
 
 -- ---- events
 
 abbrev pub LedgerEvent : Type 0
 LedgerEvent = Ledger → Event → List ℕ → Reply → Ledger
 
-abbrev pub unseen : LedgerEvent
-unseen l e vs a = l
+abbrev pub unnotedEvent : LedgerEvent
+unnotedEvent l e vs a = l
 
 abbrev pub notePowerOn : LedgerEvent
 notePowerOn l e vs a = ledgerAfter PowerOn l
 
 abbrev pub noteStable : LedgerEvent
-noteStable l e vs a = cond (has (l .line .usbctl) chipres) l (setLine (lineOscok true (l .line)) l)
+noteStable l e vs a = cond (has (l .connection .usbctl) chipres) l (notedPower (withOscok true (l .connection .power)) l)
 
 abbrev pub noteVbus : Bool → LedgerEvent
-noteVbus b l e vs a = setLine (lineVbus b (l .line)) l
+noteVbus b l e vs a = notedPower (withVbus b (l .connection .power)) l
 
 -- a seen bus reset start
 abbrev pub noteResetStart : LedgerEvent
-noteResetStart l e vs a = cond (seen (l .line)) (ledgerAfter BusReset l) l
+noteResetStart l e vs a = cond (seen (l .connection)) (ledgerAfter BusReset l) l
 
 -- OUT at endpoint 1 with the toggle held, answered ACK: its payload joins stored, the toggle flips
 abbrev pub receiverStored : Receiver → List ℕ → Receiver
@@ -177,59 +179,35 @@ isAck (sent t vs) = false
 
 abbrev pub noteOut : LedgerEvent
 noteOut l e vs a =
-    cond (isAck a) (cond (eqb (e .endpoint) 1) (cond (Bool·beq (e .data1) (l .receiver .toggle)) (setReceiver (receiverStored (l .receiver) vs) l) l) l) l
+    cond ((eqb (e .endpoint) 1 && isAck a) && Bool·beq (e .data1) (l .receiver .toggle)) (setReceiver (receiverStored (l .receiver) vs) l) l
 
 -- IN at endpoint 2 answered with data, its ACK arriving: the reply's bytes join acknowledged
 abbrev pub senderAcknowledged : Sender → List ℕ → Sender
 senderAcknowledged s vs = record
     { armed = s .armed; acknowledged = s .acknowledged ++ (vs ∷ []); bytes = s .bytes; turn = s .turn; writepos = s .writepos }
 
-abbrev pub acknowledges : Ledger → Reply → Ledger
-acknowledges l (transferred vs) = l
-acknowledges l done = l
-acknowledges l silence = l
-acknowledges l ack = l
-acknowledges l nak = l
-acknowledges l stall = l
-acknowledges l (sent t vs) = setSender (senderAcknowledged (l .sender) vs) l
+abbrev pub noteSent : Ledger → Reply → Ledger
+noteSent l (transferred vs) = l
+noteSent l done = l
+noteSent l silence = l
+noteSent l ack = l
+noteSent l nak = l
+noteSent l stall = l
+noteSent l (sent t vs) = setSender (senderAcknowledged (l .sender) vs) l
 
 abbrev pub noteIn : LedgerEvent
-noteIn l e vs a = cond (eqb (e .endpoint) 2) (cond (e .acknowledged) (acknowledges l a) l) l
+noteIn l e vs a = cond (eqb (e .endpoint) 2 && e .acknowledged) (noteSent l a) l
 
 abbrev pub ledgerEvents : List LedgerEvent
 ledgerEvents =
-    unseen ∷ notePowerOn ∷ noteStable ∷ noteVbus true ∷ noteVbus false ∷ unseen ∷ noteResetStart ∷ unseen ∷ unseen ∷ unseen ∷ unseen ∷ noteOut ∷
-    noteIn ∷ []
+    unnotedEvent ∷ notePowerOn ∷ noteStable ∷ noteVbus true ∷ noteVbus false ∷ unnotedEvent ∷ noteResetStart ∷ unnotedEvent ∷
+    unnotedEvent ∷ unnotedEvent ∷ unnotedEvent ∷ noteOut ∷ noteIn ∷ []
 
--- ---- how the ledger reads the calls of a chip of the family
+-- ---- how it reads the calls of the MAX3420E
 
-pub record Reader : Type 0 where
-  pub writes : List LedgerWrite
-  pub step : ℕ → ℕ
-  pub events : List LedgerEvent
-
-abbrev pub max3420eReader : Reader
-max3420eReader = record { writes = ledgerWrites; step = stepRegister; events = ledgerEvents }
-
-module _ (q : Reader) where
-  abbrev pub notesWrites : Ledger → ℕ → List ℕ → Ledger
-  notesWrites l n [] = l
-  notesWrites l n (b ∷ bs) = notesWrites (getD (q .writes) n unnoted l b) (q .step n) bs
-
-  abbrev pub notesTransfer : Ledger → List ℕ → Ledger
-  notesTransfer l [] = l
-  notesTransfer l (m ∷ bs) = cond (commandWrites m) (notesWrites l (commandRegister m) bs) l
-
-  -- an accepted call with its reply
-  abbrev pub notesCall : Ledger → Call → Reply → Ledger
-  notesCall l (transfer bytes room) a = notesTransfer l bytes
-  notesCall l (event e payload room) a = getD (q .events) (e .code) unseen l e payload a
-
-  -- a refused call leaves the ledger alone
-  unfoldable pub note : Ledger → Call → Answer → Ledger
-  note l k (refused r) = l
-  note l k (answered a) = notesCall l k a
-
-  unfoldable pub ledger : Ledger → List Entry → Ledger
-  ledger l [] = l
-  ledger l (e ∷ es) = ledger (note l (e .call) (e .answer)) es
+abbrev pub max3420eLedger : Book Ledger
+max3420eLedger = record {
+  write = λ n. getD ledgerWrites n unnotedWrite;
+  step = stepRegister;
+  event = λ n. getD ledgerEvents n unnotedEvent;
+}

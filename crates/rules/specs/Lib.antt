@@ -1,9 +1,11 @@
 pub mod Write
 pub mod Read
-pub mod Transfer
-pub mod Transaction
+pub mod Spi
+pub mod Seen
+pub mod Control
+pub mod Out
+pub mod In
 pub mod Event
-pub mod Call
 pub mod Ledger
 pub mod Demand
 pub mod Bench

@@ -1,6 +1,4 @@
--- What a byte read from each register gives, and what the read moves (document 01, "Reads"). A table of these rules, R0
--- first, is the read side of a chip of the family.
--- Assumes nothing.
+-- What a byte read from each register gives, and what the read moves (document 01, "Reads").
 use mathlib.Core.Bool.{Bool, cond}
 use mathlib.Core.List.{List, [], _∷_}
 use Prim.Native.Nat.{ℕ, _+_}
@@ -10,21 +8,17 @@ use Rattle.ring.specs.Ring.{oldestCount, oldestPacket}
 use Rattle.chip.specs.declared.Endpoint0.{Endpoint0}
 use Rattle.chip.specs.declared.Endpoint1.{Endpoint1}
 use Rattle.chip.specs.declared.Chip.{Chip}
-use Rattle.chip.specs.Record.{controlRead}
+use Rattle.chip.specs.Record.{controlRegister}
 use Rattle.chip.specs.Set.{setEp0, setEp1}
+use Rattle.model.specs.Reply.{Outcome, outcome}
 
-pub record ReadRule : Type 0 where
-  pub value : Chip → ℕ
-  pub moves : Chip → Chip
+abbrev pub ReadRule : Type 0
+ReadRule = Chip → Outcome Chip ℕ
 
-abbrev pub stays : (Chip → ℕ) → ReadRule
-stays f = record { value = f; moves = λ c. c }
+-- ---- R0, R1, R4: the byte at the read position, which moves on; past the end 0, and no move
 
--- ---- FIFOs: the byte at the read position, which moves on; past the end 0, and no move
-
--- R0: the end is R5's count
-abbrev pub ep0Left : Chip → Bool
-ep0Left c = ltb (c .ep0 .readpos) (c .ep0 .count)
+abbrev pub readFifo : Bool → ℕ → Chip → ReadRule
+readFifo left byte moved c = cond left (outcome moved byte) (outcome c 0)
 
 -- endpoint 0 with R0's and R4's read positions moved
 abbrev pub ep0At : ℕ → ℕ → Endpoint0 → Endpoint0
@@ -41,53 +35,42 @@ ep0At readpos setuppos e = record {
   current = e .current;
 }
 
-abbrev pub ep0Read : Endpoint0 → Endpoint0
-ep0Read e = ep0At (e .readpos + 1) (e .setuppos) e
-
+-- R0, EP0FIFO (000 page 10): the end is R5's count (decision 15)
 abbrev pub readEp0fifo : ReadRule
-readEp0fifo = record {
-  value = λ c. cond (ep0Left c) (getD (c .ep0 .bytes) (c .ep0 .readpos) 0) 0;
-  moves = λ c. cond (ep0Left c) (setEp0 (ep0Read (c .ep0)) c) c;
-}
-
--- R1: within the older waiting packet, 0 if none
-abbrev pub ep1Left : Chip → Bool
-ep1Left c = ltb (c .ep1 .readpos) (oldestCount 2 (c .ep1 .ring))
+readEp0fifo c =
+    readFifo (ltb (c .ep0 .readpos) (c .ep0 .count)) (getD (c .ep0 .bytes) (c .ep0 .readpos) 0)
+    (setEp0 (ep0At (c .ep0 .readpos + 1) (c .ep0 .setuppos) (c .ep0)) c) c
 
 abbrev pub ep1Read : Endpoint1 → Endpoint1
 ep1Read e = record { ring = e .ring; readpos = e .readpos + 1; toggle = e .toggle }
 
+-- R1, EP1OUTFIFO (000 page 14): within the older waiting packet, 0 if none
 abbrev pub readEp1outfifo : ReadRule
-readEp1outfifo = record {
-  value = λ c. cond (ep1Left c) (getD (oldestPacket 2 (c .ep1 .ring)) (c .ep1 .readpos) 0) 0;
-  moves = λ c. cond (ep1Left c) (setEp1 (ep1Read (c .ep1)) c) c;
-}
+readEp1outfifo c =
+    readFifo (ltb (c .ep1 .readpos) (oldestCount 2 (c .ep1 .ring))) (getD (oldestPacket 2 (c .ep1 .ring)) (c .ep1 .readpos) 0)
+    (setEp1 (ep1Read (c .ep1)) c) c
 
--- R2, R3 (h)
-abbrev pub readNothing : ReadRule
-readNothing = stays (λ c. 0)
-
--- R4: eight bytes
-abbrev pub setupLeft : Chip → Bool
-setupLeft c = ltb (c .ep0 .setuppos) 8
-
-abbrev pub setupRead : Endpoint0 → Endpoint0
-setupRead e = ep0At (e .readpos) (e .setuppos + 1) e
-
+-- R4, SUDFIFO (000 page 67): eight bytes
 abbrev pub readSudfifo : ReadRule
-readSudfifo = record {
-  value = λ c. cond (setupLeft c) (getD (c .ep0 .setup) (c .ep0 .setuppos) 0) 0;
-  moves = λ c. cond (setupLeft c) (setEp0 (setupRead (c .ep0)) c) c;
-}
+readSudfifo c =
+    readFifo (ltb (c .ep0 .setuppos) 8) (getD (c .ep0 .setup) (c .ep0 .setuppos) 0)
+    (setEp0 (ep0At (c .ep0 .readpos) (c .ep0 .setuppos + 1) (c .ep0)) c) c
 
--- R5 to R20
+-- ---- no other read moves anything
+
+-- R2 and R3, EP2INFIFO and EP3INFIFO (h)
+abbrev pub readNothing : ReadRule
+readNothing c = outcome c 0
+
+-- R5 to R20, and 0 above: R5 is the last armed or received count (000 page 9), R6 that of the older waiting packet or 0 (13), R7 and
+-- R8 the last armed count (17, 21), R18 reads 1 (h)
 abbrev pub readControl : ℕ → ReadRule
-readControl n = stays (λ c. controlRead c n)
+readControl n c = outcome c (controlRegister c n)
 
--- ---- the table; registers above R20 read as 0
+-- ---- register n: R0 to R4, then the control registers
 
-abbrev pub readRules : List ReadRule
-readRules =
-    readEp0fifo ∷ readEp1outfifo ∷ readNothing ∷ readNothing ∷ readSudfifo ∷
-    readControl 5 ∷ readControl 6 ∷ readControl 7 ∷ readControl 8 ∷ readControl 9 ∷ readControl 10 ∷ readControl 11 ∷ readControl 12 ∷
-    readControl 13 ∷ readControl 14 ∷ readControl 15 ∷ readControl 16 ∷ readControl 17 ∷ readControl 18 ∷ readControl 19 ∷ readControl 20 ∷ []
+abbrev pub fifoReads : List ReadRule
+fifoReads = readEp0fifo ∷ readEp1outfifo ∷ readNothing ∷ readNothing ∷ readSudfifo ∷ []
+
+abbrev pub readRule : ℕ → ReadRule
+readRule n = getD fifoReads n (readControl n)

@@ -1,5 +1,4 @@
 -- `descriptor::copy` meets its contract: the first n bytes are copied, and n, at most the table's length, is at most 64.
--- Assumes nothing.
 use mathlib.Core.List.{List, _++_}
 use mathlib.Core.Path.{_≡_, _∙_, sym}
 use Prim.Native.Nat.{ℕ, _≤_}

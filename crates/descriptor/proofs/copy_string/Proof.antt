@@ -1,5 +1,4 @@
 -- `descriptor::copy_string` meets its contract: each index has its string, and past the last there are no bytes.
--- Assumes nothing.
 use mathlib.Core.List.{[]}
 use mathlib.Core.Path.{refl}
 use Prim.Native.Nat.{_≤_}

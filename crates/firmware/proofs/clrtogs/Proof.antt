@@ -1,5 +1,4 @@
 -- `firmware::clrtogs` meets its contract: each case is that of the definition.
--- Assumes nothing.
 use borrow.Author.Needs.{needs}
 use Rattle.firmware.proofs.clrtogs.Statement.{statement}
 use Rattle.firmware.proofs.clrtogs.Tie as tie

@@ -1,5 +1,4 @@
 -- `firmware::counted` meets its contract, by its one test.
--- Assumes nothing.
 use borrow.Author.Tests.{eq-eqb, ne-eqb}
 use Rattle.firmware.proofs.counted.Statement.{statement}
 use Rattle.firmware.proofs.counted.Tie as tie

@@ -1,5 +1,4 @@
 -- `firmware::epstalls` meets its contract: each case is that of the definition.
--- Assumes nothing.
 use borrow.Author.Needs.{needs}
 use Rattle.firmware.proofs.epstalls.Statement.{statement}
 use Rattle.firmware.proofs.epstalls.Tie as tie

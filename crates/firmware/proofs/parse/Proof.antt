@@ -1,5 +1,4 @@
 -- `firmware::parse` meets its contract: each field is made of its own bytes.
--- Assumes nothing.
 use borrow.Author.Needs.{needs}
 use Rattle.firmware.proofs.parse.Statement.{statement}
 use Rattle.firmware.proofs.parse.Tie as tie

@@ -1,5 +1,4 @@
 -- `firmware::serve` meets its contract: each decision has the outcome that the definition gives.
--- Assumes nothing.
 use mathlib.Core.Path.{refl, _∙_}
 use borrow.Author.Needs.{needs}
 use Rattle.firmware.specs.Answer.{servedOf}

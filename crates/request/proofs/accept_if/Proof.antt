@@ -1,5 +1,4 @@
 -- `request::accept_if` meets its contract, by its one test.
--- Assumes nothing.
 use borrow.Author.Needs.{needs}
 use Rattle.request.proofs.accept_if.Statement.{statement}
 use Rattle.request.proofs.accept_if.Tie as tie

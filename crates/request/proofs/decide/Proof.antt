@@ -1,5 +1,4 @@
 -- `request::decide` meets its contract: each request type is decided by its own function, and no other type has a rule.
--- Assumes nothing.
 use borrow.Author.Needs.{needs}
 use Rattle.request.proofs.Decided.{undecided}
 use Rattle.request.proofs.decide.Statement.{statement}

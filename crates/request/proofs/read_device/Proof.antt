@@ -1,5 +1,4 @@
 -- `request::read_device` meets its contract: at request type 80 each code, and each descriptor type, leaves its own rule.
--- Assumes nothing.
 use mathlib.Core.Path.{_∙_, refl}
 use borrow.Author.Needs.{needs}
 use borrow.Author.Tests.{ne-eqb}

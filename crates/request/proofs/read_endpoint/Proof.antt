@@ -1,5 +1,4 @@
 -- `request::read_endpoint` meets its contract: at request type 82 code 00 leaves its two rules, and no other code has one.
--- Assumes nothing.
 use mathlib.Core.Path.{_∙_, refl}
 use borrow.Author.Needs.{needs}
 use borrow.Author.Tests.{ne-eqb}

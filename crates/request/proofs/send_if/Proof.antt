@@ -1,5 +1,4 @@
 -- `request::send_if` meets its contract, by its one test.
--- Assumes nothing.
 use borrow.Author.Needs.{needs}
 use Rattle.request.proofs.send_if.Statement.{statement}
 use Rattle.request.proofs.send_if.Tie as tie

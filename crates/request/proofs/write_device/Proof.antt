@@ -1,5 +1,4 @@
 -- `request::write_device` meets its contract: at request type 00 each code leaves its own rule.
--- Assumes nothing.
 use mathlib.Core.Logic.{⊎-elim}
 use mathlib.Core.Path.{_≡_, _∙_, refl}
 use borrow.Author.Needs.{needs}

@@ -1,5 +1,4 @@
 -- `request::write_interface` meets its contract: at request type 01 code 0B leaves its own rule, and no other code has one.
--- Assumes nothing.
 use mathlib.Core.Path.{_∙_, refl}
 use borrow.Author.Needs.{needs}
 use borrow.Author.Tests.{ne-eqb}

@@ -1,5 +1,4 @@
 -- `chip_after` meets its promise. Each part is what its own rule gives.
--- Assumes nothing.
 use borrow.Author.Needs.{needs}
 use Rattle.reset.proofs.chip_after.Statement.{statement}
 use Rattle.reset.proofs.chip_after.Tie as tie
@@ -19,14 +18,11 @@ ep3-after-requires c κs = search needs
 registers-after-requires : tie.Need-registers-after-requires
 registers-after-requires c κs = search needs
 
-vbus-after-requires : tie.Need-vbus-after-requires
-vbus-after-requires c κs = search needs
-
-oscok-after-requires : tie.Need-oscok-after-requires
-oscok-after-requires c κs = search needs
+power-after-requires : tie.Need-power-after-requires
+power-after-requires c κs = search needs
 
 returns : tie.Need-returns
-returns c = rw (c .before .before .before .before .before .before .ep0-after .ensures, c .before .before .before .before .before .ep1-after .ensures, c .before .before .before .before .ep2-after .ensures, c .before .before .before .ep3-after .ensures, c .before .before .registers-after .ensures, c .before .vbus-after .ensures, c .oscok-after .ensures)
+returns c = cc
 
 pub chip-after-spec : {M : Type 1} → statement M
 chip-after-spec =
@@ -37,6 +33,5 @@ chip-after-spec =
     ep2-after-requires
     ep3-after-requires
     registers-after-requires
-    vbus-after-requires
-    oscok-after-requires
+    power-after-requires
     returns)

@@ -1,5 +1,4 @@
 -- `ep0_after` meets its promise. Each field is what the rules give.
--- Assumes nothing.
 use borrow.Author.Needs.{needs}
 use Rattle.reset.proofs.ep0_after.Statement.{statement}
 use Rattle.reset.proofs.ep0_after.Tie as tie

@@ -1,5 +1,4 @@
 -- `ep3_after` meets its promise. Each field is what the rules give.
--- Assumes nothing.
 use borrow.Author.Needs.{needs}
 use Rattle.reset.proofs.ep3_after.Statement.{statement}
 use Rattle.reset.proofs.ep3_after.Tie as tie

@@ -1,5 +1,4 @@
 -- `register_after` meets its promise. The line is that of the register's row.
--- Assumes nothing.
 use borrow.Author.Needs.{needs}
 use Rattle.reset.proofs.register_after.Statement.{statement}
 use Rattle.reset.proofs.register_after.Tie as tie

@@ -1,5 +1,4 @@
 -- `registers_after` meets its promise. Each field is what the rule gives for its register.
--- Assumes nothing.
 use borrow.Author.Needs.{needs}
 use Rattle.reset.proofs.registers_after.Statement.{statement}
 use Rattle.reset.proofs.registers_after.Tie as tie

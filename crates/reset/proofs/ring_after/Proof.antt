@@ -1,5 +1,4 @@
 -- `ring_after` meets its promise. The test of the code is the definition's.
--- Assumes nothing.
 use mathlib.Core.Path.{sym, _∙_}
 use borrow.Author.Needs.{needs}
 use Rattle.reset.proofs.ring_after.Statement.{statement}

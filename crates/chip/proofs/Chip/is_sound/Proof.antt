@@ -1,5 +1,4 @@
 -- `Chip::is_sound` meets its promise. The definition joins what each part's test answers.
--- Assumes nothing.
 use borrow.Author.Needs.{needs}
 use Rattle.chip.specs.Sound.{soundChip}
 use Rattle.chip.proofs.Chip.is_sound.Statement.{statement}
@@ -20,12 +19,12 @@ is-sound-requires-4 c κs = search needs
 is-sound-requires-5 : tie.Need-is-sound-requires-5
 is-sound-requires-5 c κs = search needs
 
-sound-requests-requires : tie.Need-sound-requests-requires
-sound-requests-requires c κs = search needs
+sound-irqs-requires : tie.Need-sound-irqs-requires
+sound-irqs-requires c κs = search needs
 
 returns : tie.Need-returns
 unfolding soundChip
-returns c = rw (c .before .before .before .before .before .is-sound .ensures, c .before .before .before .before .is-sound2 .ensures, c .before .before .before .is-sound3 .ensures, c .before .before .is-sound4 .ensures, c .before .is-sound5 .ensures, c .sound-requests .ensures)
+returns c = rw (c .before .before .before .before .before .is-sound .ensures, c .before .before .before .before .is-sound2 .ensures, c .before .before .before .is-sound3 .ensures, c .before .before .is-sound4 .ensures, c .before .is-sound5 .ensures, c .sound-irqs .ensures)
 
 pub is-sound-spec : {M : Type 1} → statement M
 is-sound-spec =
@@ -36,5 +35,5 @@ is-sound-spec =
     is-sound-requires-3
     is-sound-requires-4
     is-sound-requires-5
-    sound-requests-requires
+    sound-irqs-requires
     returns)

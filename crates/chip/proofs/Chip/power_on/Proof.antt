@@ -1,7 +1,6 @@
 -- `Chip::power_on` meets its promise. Both rings are empty ones, and the registers are those of power-on.
--- Assumes nothing.
 use borrow.Author.Needs.{needs}
-use Rattle.chip.specs.Record.{powerOn}
+use Rattle.chip.specs.Record.{powerOnChip}
 use Rattle.chip.proofs.Chip.power_on.Statement.{statement}
 use Rattle.chip.proofs.Chip.power_on.Tie as tie
 
@@ -12,7 +11,7 @@ power-on-requires : tie.Need-power-on-requires
 power-on-requires c κs = search needs
 
 returns : tie.Need-returns
-unfolding powerOn
+unfolding powerOnChip
 returns c = rw (c .before .empty .ensures, c .power-on .ensures)
 
 pub power-on-spec : {M : Type 1} → statement M

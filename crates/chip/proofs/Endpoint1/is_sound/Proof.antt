@@ -1,5 +1,4 @@
 -- `Endpoint1::is_sound` meets its promise. The ring's test is the definition's.
--- Assumes nothing.
 use borrow.Author.Needs.{needs}
 use Rattle.chip.proofs.Endpoint1.is_sound.Statement.{statement}
 use Rattle.chip.proofs.Endpoint1.is_sound.Tie as tie

@@ -1,5 +1,4 @@
 -- `descriptor::Data::send` meets its contract: each constant holds the bytes of its table.
--- Assumes nothing.
 use borrow.Author.Needs.{needs}
 use Rattle.descriptor.proofs.Data.send.Statement.{statement}
 use Rattle.descriptor.proofs.Data.send.Tie as tie

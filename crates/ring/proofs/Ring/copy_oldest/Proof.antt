@@ -1,5 +1,4 @@
 -- `Ring::copy_oldest` meets its promise. The part that is copied is the oldest packet.
--- Assumes nothing.
 use mathlib.Core.Path.{_≡_, ap}
 use Prim.Native.Nat.{ℕ, _+_, _-_, _*_, _%_}
 use native.Mathlib.Omega.{arith}

@@ -1,5 +1,4 @@
 -- `Ring::oldest_byte` meets its promise. A byte below the count is the packet's; past the count, or past the array, the packet has none.
--- Assumes nothing.
 use mathlib.Core.Path.{_≡_, _∙_, sym}
 use Prim.Native.Nat.{_%_}
 use native.Mathlib.Omega.{arith}

@@ -1,5 +1,4 @@
 -- `Ring::release_oldest` meets its promise. The test of the code is the definition's.
--- Assumes nothing.
 use borrow.Author.Tests.{eq-eqb, ne-eqb}
 use borrow.Author.Needs.{needs}
 use Rattle.ring.proofs.Ring.release_oldest.Statement.{statement}

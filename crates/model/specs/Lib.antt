@@ -1,0 +1,5 @@
+pub mod Reply
+pub mod Spi
+pub mod Call
+pub mod Book
+pub mod Condition

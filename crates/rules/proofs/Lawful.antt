@@ -1,0 +1,123 @@
+-- What a chip must show for demand 3, over any state that holds a MAX3420E's record; and that the MAX3420E shows it, row by row.
+use mathlib.Core.Path.{_≡_, refl, sym, _∙_, subst}
+use mathlib.Core.Bool.{Bool, true, false}
+use mathlib.Core.List.{List, map}
+use Prim.Native.Nat.{ℕ, _≤_}
+use native.Mathlib.Omega.{arith}
+use lib.ListN.{length, getD, List·getD-eq-default}
+use Rattle.bits.proofs.First.{Each, none}
+use Rattle.bits.proofs.Mask.{has-or}
+use Rattle.bits.proofs.Rows.{Rows, rows-all, none as end, _⨾_}
+use Rattle.ring.specs.Ring.{emptyRing}
+use Rattle.ring.proofs.Laws.{fits-drained}
+use Rattle.chip.specs.declared.Chip.{Chip}
+use Rattle.chip.specs.Mask.{ackstat, uresdnirq, suspirq, busactirq, unusedOf}
+use Rattle.chip.specs.Record.{bytesOf, powerOnChip}
+use Rattle.chip.specs.Sound.{unusedRegisters}
+use Rattle.chip.proofs.Sound.{clean-set, sound-clauses, clauses-sound}
+use Rattle.reset.proofs.Effects.{power-on-sound}
+use Rattle.model.specs.declared.Event.{Event}
+use Rattle.model.specs.Call.{Call, ground, Model}
+use Rattle.model.specs.Book.{Book}
+use Rattle.model.specs.Condition.{always}
+use Rattle.model.proofs.Refusals.{NotUnsound}
+use Rattle.model.proofs.Keeps.{Keeps, KeepsWrite, KeepsRead, KeepsEvent}
+use Rattle.rules.specs.Write.{WriteRule, writeRules, ignored}
+use Rattle.rules.specs.Read.{ReadRule, fifoReads, readControl, readRule}
+use Rattle.rules.specs.Spi.{setAckstat}
+use Rattle.rules.specs.Event.{EventRule, eventRules, noEvent, max3420e}
+use Rattle.rules.specs.Ledger.{Ledger, LedgerWrite, LedgerEvent, blank, ledgerWrites, unnotedWrite, ledgerEvents, unnotedEvent, max3420eLedger}
+use Rattle.rules.proofs.Agree.{Agree, agree-sound, with-unused}
+use Rattle.rules.proofs.Writes.{keeps-ignored, keeps-ep0fifo, keeps-ep2fifo, keeps-ep3fifo, keeps-ep0bc, keeps-ep2bc, keeps-ep3bc, keeps-epstalls, keeps-clrtogs, keeps-epirq, keeps-epien, keeps-usbirq, keeps-usbien, keeps-usbctl, keeps-cpuctl, keeps-pinctl, keeps-iopins}
+use Rattle.rules.proofs.Reading as reading
+use Rattle.rules.proofs.Events.{keeps-no-event, keeps-power-on, keeps-stable, keeps-vbus-on, keeps-vbus-off, keeps-pins, keeps-reset-start, keeps-raises, keeps-setup}
+use Rattle.rules.proofs.Outs.{keeps-out}
+use Rattle.rules.proofs.Ins.{keeps-in}
+
+-- with an invariant I of its own, under which its MAX3420E part agrees with the ledger
+pub record Lawful {R : Type 0} (core : R → Chip) (I : Ledger → R → Type 0) (m : Model R) (q : Book Ledger) : Type 0 where
+  pub keeps : Keeps m q always I
+  pub starts : I blank (m .start)
+  pub agrees : (l : Ledger) (c : R) → I l c → Agree l (core c)
+  pub sound : (l : Ledger) (c : R) → I l c → m .sound c ≡ true
+  pub further : (c : R) (k : Call) → Each NotUnsound (map ground (m .further c k))
+
+-- ---- the rows of the MAX3420E
+
+abbrev WriteRow : ℕ → Type 0
+WriteRow n = KeepsWrite Agree (λ (c : Chip) (b : ℕ). false) (max3420e .spi .write n) (max3420eLedger .write n)
+
+-- R0 to R20
+write-rows : Rows WriteRow 0 21
+write-rows =
+    keeps-ep0fifo ⨾ keeps-ignored ⨾ keeps-ep2fifo ⨾ keeps-ep3fifo ⨾ keeps-ignored ⨾
+    keeps-ep0bc ⨾ keeps-ignored ⨾ keeps-ep2bc ⨾ keeps-ep3bc ⨾ keeps-epstalls ⨾
+    keeps-clrtogs ⨾ keeps-epirq ⨾ keeps-epien ⨾ keeps-usbirq ⨾ keeps-usbien ⨾
+    keeps-usbctl ⨾ keeps-cpuctl ⨾ keeps-pinctl ⨾ keeps-ignored ⨾ keeps-ignored ⨾ keeps-iopins ⨾ end
+
+-- above R20 nothing is written and nothing noted
+past-writes : (n : ℕ) → 21 ≤ n → WriteRow n
+past-writes n h =
+    subst (λ (f : WriteRule). KeepsWrite Agree (λ (c : Chip) (b : ℕ). false) f (max3420eLedger .write n)) (sym (List·getD-eq-default writeRules ignored h))
+    (subst (λ (k : LedgerWrite). KeepsWrite Agree (λ (c : Chip) (b : ℕ). false) ignored k)
+    (sym (List·getD-eq-default ledgerWrites unnotedWrite {n = n} (omega arith))) keeps-ignored)
+
+abbrev ReadRow : ℕ → Type 0
+ReadRow n = KeepsRead Agree (readRule n)
+
+-- R0 to R4
+read-rows : Rows ReadRow 0 5
+read-rows = reading.keeps-ep0fifo ⨾ reading.keeps-ep1outfifo ⨾ reading.keeps-nothing ⨾ reading.keeps-nothing ⨾ reading.keeps-sudfifo ⨾ end
+
+past-reads : (n : ℕ) → 5 ≤ n → ReadRow n
+past-reads n h =
+    subst (λ (r : ReadRule). KeepsRead Agree r) (sym (List·getD-eq-default fifoReads (readControl n) h)) (reading.keeps-control n)
+
+abbrev EventRow : ℕ → Type 0
+EventRow n = KeepsEvent Agree n (λ (c : Chip) (e : Event). false) (max3420e .bus n) (max3420eLedger .event n)
+
+-- codes 0 to 12
+event-rows : Rows EventRow 0 13
+event-rows =
+    keeps-no-event 0 ⨾ keeps-power-on 1 ⨾ keeps-stable 2 ⨾ keeps-vbus-on 3 ⨾ keeps-vbus-off 4 ⨾ keeps-pins 5 ⨾ keeps-reset-start 6 ⨾
+    keeps-raises uresdnirq 7 ⨾ keeps-raises suspirq 8 ⨾ keeps-raises busactirq 9 ⨾ keeps-setup 10 ⨾ keeps-out ⨾ keeps-in 12 ⨾ end
+
+past-events : (n : ℕ) → 13 ≤ n → EventRow n
+past-events n h =
+    subst (λ (r : EventRule). KeepsEvent Agree n (λ (c : Chip) (e : Event). false) r (max3420eLedger .event n)) (sym (List·getD-eq-default eventRules noEvent h))
+    (subst (λ (k : LedgerEvent). KeepsEvent Agree n (λ (c : Chip) (e : Event). false) noEvent k)
+    (sym (List·getD-eq-default ledgerEvents unnotedEvent h)) (keeps-no-event n))
+
+-- the command byte may set ACKSTAT
+ackstat-keeps : (l : Ledger) (c : Chip) → Agree l c → Agree l (setAckstat c)
+ackstat-keeps l c i =
+    with-unused i (clean-set (bytesOf (c .registers)) unusedRegisters 0 _ (i .unused) (has-or (c .registers .epstalls) ackstat (unusedOf 9) ∙ i .unused 0))
+
+starts : Agree blank powerOnChip
+unfolding powerOnChip
+starts =
+    let fits = fits-drained emptyRing (emptyRing .bytes) (omega arith) in
+    let clauses = sound-clauses powerOnChip power-on-sound in
+    record {
+      sends = record { fits = fits; queued = refl; bytes = refl; turn = refl; place = refl; writepos = omega arith; count = omega arith; irq = refl };
+      receives = record { fits = fits; queued = refl; toggled = refl; readpos = omega arith; irq = refl };
+      connection = refl;
+      ep0 = clauses .ep0;
+      ep3 = clauses .ep3;
+      unused = clauses .unused;
+    }
+
+pub max3420e-lawful : Lawful (λ c. c) Agree max3420e max3420eLedger
+max3420e-lawful = record {
+  keeps = record {
+    writes = rows-all WriteRow 21 write-rows past-writes;
+    reads = rows-all ReadRow 5 read-rows past-reads;
+    steps = λ n. refl;
+    acknowledges = ackstat-keeps;
+    events = rows-all EventRow 13 event-rows past-events;
+  };
+  starts = starts;
+  agrees = λ l c i. i;
+  sound = λ l c i. clauses-sound c (agree-sound l c i);
+  further = λ c k. none;
+}
