@@ -13,16 +13,10 @@ use Rattle.bits.proofs.Cases.{and-true, or-false, true-is-false}
 use Rattle.bits.proofs.First.{testAt, first-none, noneGives, ascending, numberAt, first-lowest, first-each, Each, none, _⨾_}
 use Rattle.refusal.specs.declared.Refusal.{Refusal}
 use Rattle.refusal.specs.declared.Refusal.the-variants.{Unsound}
-use Rattle.refusal.specs.Number.{refusalNumber}
 use Rattle.model.specs.declared.Event.{Event}
 use Rattle.model.specs.declared.Checked.{Checked}
 use Rattle.model.specs.declared.Checked.the-variants.{Accepted, Refused}
-use Rattle.model.specs.Call.{Call, transfer, event, transferGrounds, eventGrounds, grounds, ground, check, isOut, isSetup}
-
--- the number of refusal; 0 is none
-abbrev pub checkedNumber : Checked → ℕ
-checkedNumber Accepted = 0
-checkedNumber (Refused r) = refusalNumber r
+use Rattle.model.specs.Call.{Call, transfer, event, transferGrounds, eventGrounds, grounds, ground, check, checkedNumber, isOut, isSetup}
 
 abbrev isAccepted : Checked → Bool
 isAccepted Accepted = true

@@ -8,6 +8,7 @@ use lib.ListN.{length}
 use Rattle.bits.specs.First.{firstOf}
 use Rattle.refusal.specs.declared.Refusal.{Refusal}
 use Rattle.refusal.specs.declared.Refusal.the-variants.{Unsound, NoCommand, LongTransfer, ShortBuffer, UnknownEvent, BadPayload, BadAddress}
+use Rattle.refusal.specs.Number.{refusalNumber}
 use Rattle.model.specs.declared.Event.{Event}
 use Rattle.model.specs.declared.Checked.{Checked}
 use Rattle.model.specs.declared.Checked.the-variants.{Accepted, Refused}
@@ -70,6 +71,11 @@ ground g = (g .0, Refused (g .1))
 
 abbrev pub check : List (Bool × Refusal) → Checked
 check gs = firstOf (map ground gs) Accepted
+
+-- the number of refusal; 0 is none
+abbrev pub checkedNumber : Checked → ℕ
+checkedNumber Accepted = 0
+checkedNumber (Refused r) = refusalNumber r
 
 -- ---- a model: both sides, the state at power-on, when a state is sound, and grounds of its own beyond the common ones
 

@@ -1,5 +1,5 @@
 -- The reset law: what register n reads after a reset is its row applied to what it read before, for each of the three
--- resets, every record and every n from 5 to 20.
+-- resets, every record and every n that has a row, 5 to 20.
 use mathlib.Core.Path.{_≡_, sym, ap, _∙_}
 use mathlib.Core.List.{List, [], _∷_}
 use Prim.Native.Nat.{ℕ, zero, suc, _+_, _-_, _≤_, _<_}
@@ -12,7 +12,7 @@ use Rattle.chip.specs.declared.Chip.{Chip}
 use Rattle.chip.specs.Record.{controlRegisters, controlRegister}
 use Rattle.reset.specs.declared.Reset.{Reset}
 use Rattle.reset.specs.declared.Reset.the-variants.{PowerOn, ChipReset, BusReset}
-use Rattle.reset.specs.Table.{registerAfter, allAfter}
+use Rattle.reset.specs.Table.{pastRows, registerAfter, allAfter}
 use Rattle.reset.specs.Reset.{chipAfter}
 
 all-at : (k : Reset) (n i : ℕ) (xs : List ℕ) → i < length xs → getD (allAfter k n xs) i 0 ≡ registerAfter k (n + i) (getD xs i 0)
@@ -27,7 +27,7 @@ registers-after PowerOn c = rw (and-zero-r (oldestCount 2 (c .ep1 .ring)))
 registers-after ChipReset c = rw (and-zero-r (oldestCount 2 (c .ep1 .ring)))
 registers-after BusReset c = rw (and-zero-r (oldestCount 2 (c .ep1 .ring)))
 
-pub reset-law : (k : Reset) (c : Chip) (n : ℕ) → 5 ≤ n → n < 21 → controlRegister (chipAfter k c) n ≡ registerAfter k n (controlRegister c n)
+pub reset-law : (k : Reset) (c : Chip) (n : ℕ) → 5 ≤ n → n < pastRows → controlRegister (chipAfter k c) n ≡ registerAfter k n (controlRegister c n)
 reset-law k c n h l =
     let number : 5 + (n - 5) ≡ n = omega arith in
     ap (λ (xs : List ℕ). getD xs (n - 5) 0) (registers-after k c)

@@ -18,7 +18,7 @@ use Rattle.chip.specs.Record.{controlRegister}
 use Rattle.reset.specs.declared.Reset.{Reset}
 use Rattle.reset.specs.declared.Reset.the-variants.{PowerOn, ChipReset, BusReset}
 use Rattle.reset.specs.declared.Line.{Line}
-use Rattle.reset.specs.Table.{rowOf, lineOf}
+use Rattle.reset.specs.Table.{rows, pastRows, rowOf, lineOf}
 use Rattle.reset.specs.Reset.{chipAfter}
 use Rattle.reset.specs.Lines.{Fate, one, kept, fateOf, Claim, claim, Holds, seenThere}
 use Rattle.reset.proofs.Law.{reset-law}
@@ -43,16 +43,16 @@ says-so kept l b x t =
 
 -- the claim is about one of R5 to R20, and its line says so
 right : Claim → Bool
-right a = (leb 5 (a .register) && ltb (a .register) 21) && says (a .becomes) (lineOf (rowOf (a .register)) (a .reset)) (a .bitNumber)
+right a = (leb 5 (a .register) && ltb (a .register) pastRows) && says (a .becomes) (lineOf (rowOf (a .register)) (a .reset)) (a .bitNumber)
 
 right-holds : (a : Claim) → right a ≡ true → Holds a
 unfolding right
 right-holds a t c =
-    let p = and-true (leb 5 (a .register) && ltb (a .register) 21) _ t in
-    let q = and-true (leb 5 (a .register)) (ltb (a .register) 21) (p .0) in
+    let p = and-true (leb 5 (a .register) && ltb (a .register) pastRows) _ t in
+    let q = and-true (leb 5 (a .register)) (ltb (a .register) pastRows) (p .0) in
     let l : Line = lineOf (rowOf (a .register)) (a .reset) in
     let x : ℕ = controlRegister c (a .register) in
-    ap (λ (n : ℕ). bit n (a .bitNumber)) (reset-law (a .reset) c (a .register) (leb-true 5 (a .register) (q .0)) (ltb-true (a .register) 21 (q .1)))
+    ap (λ (n : ℕ). bit n (a .bitNumber)) (reset-law (a .reset) c (a .register) (leb-true 5 (a .register) (q .0)) (ltb-true (a .register) pastRows (q .1)))
     ∙ bit-masked (l .keep) (l .value) x (a .bitNumber)
     ∙ says-so (a .becomes) l (a .bitNumber) x (p .1)
 
@@ -73,18 +73,18 @@ seen-there i h = right-holds (claimAt i) (every-at (λ i. right (claimAt i)) (le
 sets-none : Reset → ℕ → Bool
 sets-none k n = lacks (lineOf (rowOf n) k .value) (unusedOf n)
 
-none-set : (k : Reset) → every (λ i. sets-none k (i + 5)) 16 ≡ true
+none-set : (k : Reset) → every (λ i. sets-none k (i + 5)) (length rows) ≡ true
 unfolding sets-none
 none-set PowerOn = refl
 none-set ChipReset = refl
 none-set BusReset = refl
 
 -- unused bits stay 0 under every reset
-pub unused-stay : (k : Reset) (c : Chip) (n : ℕ) → 5 ≤ n → n < 21
+pub unused-stay : (k : Reset) (c : Chip) (n : ℕ) → 5 ≤ n → n < pastRows
     → lacks (controlRegister c n) (unusedOf n) ≡ true → lacks (controlRegister (chipAfter k c) n) (unusedOf n) ≡ true
 unfolding sets-none
 unused-stay k c n h l g =
     let number : n - 5 + 5 ≡ n = omega arith in
-    let none : sets-none k n ≡ true = rw number at (every-at (λ i. sets-none k (i + 5)) 16 (none-set k) (n - 5) (omega arith)) in
+    let none : sets-none k n ≡ true = rw number at (every-at (λ i. sets-none k (i + 5)) (length rows) (none-set k) (n - 5) (omega arith)) in
     ap (λ (x : ℕ). lacks x (unusedOf n)) (reset-law k c n h l)
     ∙ lacks-masked-kept (lineOf (rowOf n) k .keep) (lineOf (rowOf n) k .value) (controlRegister c n) (unusedOf n) none g

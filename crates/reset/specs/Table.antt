@@ -2,7 +2,7 @@
 -- The values are those on each bit's page of 000: "POR", "Chip Reset", "Bus Reset".
 use mathlib.Core.List.{List, [], _∷_}
 use Prim.Native.Nat.{ℕ, suc, _+_, _-_}
-use lib.ListN.{getD}
+use lib.ListN.{length, getD}
 use Rattle.bits.specs.Bit.{masked}
 use Rattle.chip.specs.Mask.{availableIrqs, uresdnirq, uresirq, uresdnie, uresie, usbctlBits, ie, pinBits, inputBits, outputBits}
 use Rattle.reset.specs.declared.Reset.{Reset}
@@ -50,6 +50,10 @@ rows =
     cleared ∷
     -- R20 IOPINS: outputs (31 to 34) and input levels (27 to 30, decision 3) stay, 0 at power-on
     row zero (line (inputBits + outputBits) 0) (line (inputBits + outputBits) 0) ∷ []
+
+-- the registers with a row: R5 and those up to, not with, this one
+abbrev pub pastRows : ℕ
+pastRows = 5 + length rows
 
 -- the row of register n, n from 5 to 20
 abbrev pub rowOf : ℕ → Row

@@ -9,7 +9,7 @@ use chip::Registers;
 use ring::Ring;
 ghost use mathlib.Core.Path.{_≡_};
 ghost use Prim.Native.Nat.{_≤_, _<_};
-ghost use Rattle.reset.specs.Table.{rowOf, lineOf, registerAfter};
+ghost use Rattle.reset.specs.Table.{pastRows, rowOf, lineOf, registerAfter};
 ghost use Rattle.reset.specs.Reset.{wipes, bytesAfter, ringAfter, ep0After, ep1After, ep2After, ep3After, registersAfter, powerAfter, chipAfter};
 
 pub enum Reset {
@@ -137,7 +137,7 @@ const RESETS: [Row; 16] = [
 ];
 
 fn row_of(number: usize) -> Row
-    requires { ⌜ (5 ≤ number) × (number < 21) ⌝ }
+    requires { ⌜ (5 ≤ number) × (number < pastRows) ⌝ }
     ensures { λ r. ⌜ r ≡ rowOf number ⌝ }
 {
     RESETS[number - 5]
@@ -155,7 +155,7 @@ fn line_of(row: Row, reset: Reset) -> Line
 
 // What register `number` holds after a reset.
 fn register_after(reset: Reset, number: usize, old: u8) -> u8
-    requires { ⌜ (5 ≤ number) × (number < 21) ⌝ }
+    requires { ⌜ (5 ≤ number) × (number < pastRows) ⌝ }
     ensures { λ r. ⌜ r ≡ registerAfter reset number old ⌝ }
 {
     let line = line_of(row_of(number), reset);

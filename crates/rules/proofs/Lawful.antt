@@ -48,15 +48,15 @@ abbrev WriteRow : ℕ → Type 0
 WriteRow n = KeepsWrite Agree (λ (c : Chip) (b : ℕ). false) (max3420e .spi .write n) (max3420eLedger .write n)
 
 -- R0 to R20
-write-rows : Rows WriteRow 0 21
+write-rows : Rows WriteRow 0 (length writeRules)
 write-rows =
     keeps-ep0fifo ⨾ keeps-ignored ⨾ keeps-ep2fifo ⨾ keeps-ep3fifo ⨾ keeps-ignored ⨾
     keeps-ep0bc ⨾ keeps-ignored ⨾ keeps-ep2bc ⨾ keeps-ep3bc ⨾ keeps-epstalls ⨾
     keeps-clrtogs ⨾ keeps-epirq ⨾ keeps-epien ⨾ keeps-usbirq ⨾ keeps-usbien ⨾
     keeps-usbctl ⨾ keeps-cpuctl ⨾ keeps-pinctl ⨾ keeps-ignored ⨾ keeps-ignored ⨾ keeps-iopins ⨾ end
 
--- above R20 nothing is written and nothing noted
-past-writes : (n : ℕ) → 21 ≤ n → WriteRow n
+-- past the table nothing is written and nothing noted
+past-writes : (n : ℕ) → length writeRules ≤ n → WriteRow n
 past-writes n h =
     subst (λ (f : WriteRule). KeepsWrite Agree (λ (c : Chip) (b : ℕ). false) f (max3420eLedger .write n)) (sym (List·getD-eq-default writeRules ignored h))
     (subst (λ (k : LedgerWrite). KeepsWrite Agree (λ (c : Chip) (b : ℕ). false) ignored k)
@@ -77,12 +77,12 @@ abbrev EventRow : ℕ → Type 0
 EventRow n = KeepsEvent Agree n (λ (c : Chip) (e : Event). false) (max3420e .bus n) (max3420eLedger .event n)
 
 -- codes 0 to 12
-event-rows : Rows EventRow 0 13
+event-rows : Rows EventRow 0 (length eventRules)
 event-rows =
     keeps-no-event 0 ⨾ keeps-power-on 1 ⨾ keeps-stable 2 ⨾ keeps-vbus-on 3 ⨾ keeps-vbus-off 4 ⨾ keeps-pins 5 ⨾ keeps-reset-start 6 ⨾
     keeps-raises uresdnirq 7 ⨾ keeps-raises suspirq 8 ⨾ keeps-raises busactirq 9 ⨾ keeps-setup 10 ⨾ keeps-out ⨾ keeps-in 12 ⨾ end
 
-past-events : (n : ℕ) → 13 ≤ n → EventRow n
+past-events : (n : ℕ) → length eventRules ≤ n → EventRow n
 past-events n h =
     subst (λ (r : EventRule). KeepsEvent Agree n (λ (c : Chip) (e : Event). false) r (max3420eLedger .event n)) (sym (List·getD-eq-default eventRules noEvent h))
     (subst (λ (k : LedgerEvent). KeepsEvent Agree n (λ (c : Chip) (e : Event). false) noEvent k)
@@ -110,11 +110,11 @@ starts =
 pub max3420e-lawful : Lawful (λ c. c) Agree max3420e max3420eLedger
 max3420e-lawful = record {
   keeps = record {
-    writes = rows-all WriteRow 21 write-rows past-writes;
+    writes = rows-all WriteRow (length writeRules) write-rows past-writes;
     reads = rows-all ReadRow 5 read-rows past-reads;
     steps = λ n. refl;
     acknowledges = ackstat-keeps;
-    events = rows-all EventRow 13 event-rows past-events;
+    events = rows-all EventRow (length eventRules) event-rows past-events;
   };
   starts = starts;
   agrees = λ l c i. i;

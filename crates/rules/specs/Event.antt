@@ -63,7 +63,7 @@ pinsEvent = signal (λ c e. setIopins (masked outputBits (bitAnd (e .pins) 0x0f 
 abbrev pub resetStartEvent : EventRule
 resetStartEvent = whenSeen (chipAfter BusReset)
 
--- 7: bus reset end (000 page 71, decision 7); 8: suspend (69); 9: activity (2, decision 25)
+-- 7: bus reset end (000 page 71, decision 7); 8: suspend (69); 9: activity (3, decision 25)
 abbrev pub resetEndEvent : EventRule
 resetEndEvent = whenSeen (raiseUsbirq uresdnirq)
 

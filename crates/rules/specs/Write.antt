@@ -164,11 +164,11 @@ writeEpirq c b = releaseIf (has b out1davirq) (lowerEpirq (bitAnd b clearedEpirq
 abbrev pub writeEpien : WriteRule
 writeEpien c b = setEpien (bitAnd b epienBits) c
 
--- R13, USBIRQ: a 1 clears (000 pages 2, 47, 49, 57, 69, 71, 73, 75)
+-- R13, USBIRQ: a 1 clears (000 pages 3, 47, 49, 57, 69, 71, 73, 75)
 abbrev pub writeUsbirq : WriteRule
 writeUsbirq c b = setUsbirq (lowered b (c .registers .usbirq)) c
 
--- R14, USBIEN: all (000 pages 3, 46, 48, 56, 68, 70, 72, 74)
+-- R14, USBIEN: all (000 pages 2, 46, 48, 56, 68, 70, 72, 74)
 abbrev pub writeUsbien : WriteRule
 writeUsbien c b = setUsbien b c
 

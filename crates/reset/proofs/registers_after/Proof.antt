@@ -37,7 +37,19 @@ register-after-requires-11 : tie.Need-register-after-requires-11
 register-after-requires-11 c κs = search needs
 
 returns : tie.Need-returns
-returns c = cc
+returns c =
+    let a11 = c in
+    let a10 = a11 .before in
+    let a9 = a10 .before in
+    let a8 = a9 .before in
+    let a7 = a8 .before in
+    let a6 = a7 .before in
+    let a5 = a6 .before in
+    let a4 = a5 .before in
+    let a3 = a4 .before in
+    let a2 = a3 .before in
+    let a1 = a2 .before in
+    rw (a1 .register-after .ensures, a2 .register-after2 .ensures, a3 .register-after3 .ensures, a4 .register-after4 .ensures, a5 .register-after5 .ensures, a6 .register-after6 .ensures, a7 .register-after7 .ensures, a8 .register-after8 .ensures, a9 .register-after9 .ensures, a10 .register-after10 .ensures, a11 .register-after11 .ensures)
 
 pub registers-after-spec : {M : Type 1} → statement M
 registers-after-spec =
