@@ -53,7 +53,8 @@ unfolding SameBits
 lasts a b h = sym (bit-first a) ∙ h 0 ∙ bit-first b
 
 zero-bits : (b : ℕ) → SameBits 0 b → 0 ≡ b
-zero-bits = bin-ind (λ (b : ℕ). SameBits 0 b → 0 ≡ b) (λ h. refl) (λ b ih h. let q : 0 ≡ b / 2 = ih (halves 0 b h) in omega (arith, lasts 0 b h))
+zero-bits = bin-ind (λ (b : ℕ). SameBits 0 b → 0 ≡ b) (λ h. refl)
+    (λ b ih h. let q : 0 ≡ b / 2 = ih (halves 0 b h) in omega (arith, lasts 0 b h))
 
 -- two numbers with the same bits are equal
 same-bits : (a b : ℕ) → SameBits a b → a ≡ b

@@ -35,7 +35,8 @@ none-apply rule rules e rest (suc i) = rest i
 pub first-elim : {A : Type 0} (P : A → Type 0) (rules : List (Bool × A)) (z : A) → Each P rules → (((i : ℕ) → testAt rules i ≡ false) → P z)
     → P (firstOf rules z)
 first-elim P [] z none p = p (λ i. refl)
-first-elim P (rule ∷ rules) z (f ⨾ each) p = cond-elim P (rule .0) f (λ e. first-elim P rules z each (λ rest. p (none-apply rule rules e rest)))
+first-elim P (rule ∷ rules) z (f ⨾ each) p = cond-elim P (rule .0) f
+    (λ e. first-elim P rules z each (λ rest. p (none-apply rule rules e rest)))
 
 pub first-each : {A : Type 0} (P : A → Type 0) (rules : List (Bool × A)) (z : A) → Each P rules → P z → P (firstOf rules z)
 first-each P rules z each p = first-elim P rules z each (λ _. p)
@@ -46,7 +47,8 @@ module _ {A B : Type 0} (g : A → B) where
   cond-map true x y = refl
   cond-map false x y = refl
 
-  pub first-map : (rules : List (Bool × A)) (z : A) → g (firstOf rules z) ≡ firstOf (map (λ (rule : Bool × A). (rule .0, g (rule .1))) rules) (g z)
+  pub first-map : (rules : List (Bool × A)) (z : A) → g (firstOf rules z) ≡ firstOf
+      (map (λ (rule : Bool × A). (rule .0, g (rule .1))) rules) (g z)
   first-map [] z = refl
   first-map (rule ∷ rules) z = cond-map (rule .0) (rule .1) (firstOf rules z) ∙ ap (cond (rule .0) (g (rule .1))) (first-map rules z)
 
@@ -63,9 +65,11 @@ module _ {A : Type 0} (f : A → Bool) where
   skips false x y n m = (refl, m)
 
   -- an outcome that f accepts and no rule gives is given only where no rule applies
-  pub first-none : (rules : List (Bool × A)) (z : A) → noneGives f rules ≡ true → f (firstOf rules z) ≡ true → (i : ℕ) → testAt rules i ≡ false
+  pub first-none : (rules : List (Bool × A)) (z : A) → noneGives f rules ≡ true → f (firstOf rules z) ≡ true → (i : ℕ) → testAt rules i
+      ≡ false
   first-none [] z n m i = refl
-  first-none (rule ∷ rules) z n m zero = skips (rule .0) (rule .1) (firstOf rules z) (and-true (not (f (rule .1))) (noneGives f rules) n .0) m .0
+  first-none (rule ∷ rules) z n m zero = skips (rule .0) (rule .1) (firstOf rules z)
+      (and-true (not (f (rule .1))) (noneGives f rules) n .0) m .0
   first-none (rule ∷ rules) z n m (suc i) =
       let both = and-true (not (f (rule .1))) (noneGives f rules) n in
       first-none rules z (both .1) (skips (rule .0) (rule .1) (firstOf rules z) (both .0) m .1) i
@@ -90,7 +94,8 @@ module _ {A : Type 0} (number : A → ℕ) where
   numberAt n (rule ∷ rules) (suc i) = numberAt n rules i
 
 module _ {A : Type 0} (number : A → ℕ) where
-  ascends-above : (n m : ℕ) (rules : List (Bool × A)) → ascending number n rules ≡ true → (i : ℕ) → testAt rules i ≡ true → n < numberAt number m rules i
+  ascends-above : (n m : ℕ) (rules : List (Bool × A)) → ascending number n rules ≡ true → (i : ℕ) → testAt rules i ≡ true
+      → n < numberAt number m rules i
   ascends-above n m [] a i t = true-is-false (sym t)
   ascends-above n m (rule ∷ rules) a zero t =
       ltb-true n (number (rule .1)) (and-true (ltb n (number (rule .1))) (ascending number (number (rule .1)) rules) a .0)
@@ -107,7 +112,8 @@ module _ {A : Type 0} (number : A → ℕ) where
       by (rule .0) refl rest (λ j. first-lowest (number (rule .1)) m rules z rest j) i t
     where
       by : (s : Bool) → rule .0 ≡ s → ascending number (number (rule .1)) rules ≡ true
-          → ((j : ℕ) → testAt rules j ≡ true → number (firstOf rules z) ≤ numberAt number m rules j) → (i : ℕ) → testAt (rule ∷ rules) i ≡ true
+          → ((j : ℕ) → testAt rules j ≡ true → number (firstOf rules z) ≤ numberAt number m rules j) → (i : ℕ) → testAt (rule ∷ rules) i
+          ≡ true
           → number (cond s (rule .1) (firstOf rules z)) ≤ numberAt number m (rule ∷ rules) i
       by true e rest later zero t = omega arith
       by true e rest later (suc i) t = le-of-lt (ascends-above (number (rule .1)) m rules rest i t)
@@ -124,7 +130,8 @@ none-more t ts e rest zero = e
 none-more t ts e rest (suc i) = rest i
 
 -- what holds before, and after the change where no test holds, holds in either case
-pub unless-elim : {A : Type 0} (P : A → Type 0) (ts : List Bool) {x y : A} → P x → (((i : ℕ) → holdsAt ts i ≡ false) → P y) → P (unless ts x y)
+pub unless-elim : {A : Type 0} (P : A → Type 0) (ts : List Bool) {x y : A} → P x → (((i : ℕ) → holdsAt ts i ≡ false) → P y) → P
+    (unless ts x y)
 unless-elim P [] p q = q (λ i. refl)
 unless-elim P (t ∷ ts) p q = cond-elim P t (λ _. p) (λ e. unless-elim P ts p (λ rest. q (none-more t ts e rest)))
 

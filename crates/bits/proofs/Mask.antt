@@ -9,7 +9,18 @@ use native.Mathlib.Decide.{decLt}
 use native.Mathlib.Omega.{arith}
 use lib.Dec.{eqb}
 use lib.Pow.{pow-pos}
-use lib.Bits.{bitAnd, bitOr, and-comm, and-zero-r, or-zero-r, and-le-r, or-lt, or-add-and, and-le-l, and-high}
+use lib.Bits.{
+  bitAnd,
+  bitOr,
+  and-comm,
+  and-zero-r,
+  or-zero-r,
+  and-le-r,
+  or-lt,
+  or-add-and,
+  and-le-l,
+  and-high,
+}
 use borrow.Author.Tests.{eqb-true, ne-eqb, not-false}
 use Rattle.bits.specs.Bit.{bit, lacks, has, lowered, stored, masked}
 use Rattle.bits.proofs.Bit.{bit-lt, bit-and, bit-or, bit-ext, bit-high, bit-complement}
@@ -104,7 +115,8 @@ one-bit (suc (suc b)) n h g = absurd (omega arith)
 
 pub has-bit : (x k : ℕ) → has x (2 ^ k) ≡ eqb (bit x k) 1
 has-bit x k =
-    ap (λ (n : ℕ). not (eqb (bitAnd x n) 0)) power ∙ ap (λ (n : ℕ). not (eqb n 0)) (and-high x 1 k) ∙ one-bit (bit x k) (2 ^ k) (omega arith) (pow-pos k)
+    ap (λ (n : ℕ). not (eqb (bitAnd x n) 0)) power ∙ ap (λ (n : ℕ). not (eqb n 0)) (and-high x 1 k) ∙ one-bit (bit x k) (2 ^ k)
+    (omega arith) (pow-pos k)
   where
     power : 2 ^ k ≡ 2 ^ (1 + k) - 2 ^ k
     power = rw (add-comm 1 k, add-one k, pow-suc 2 k) (omega arith)

@@ -53,7 +53,19 @@ same-ep0 a b e =
     let e7 = beq-eq (a .intoggle) (b .intoggle) (c 7) in
     let e8 = beq-eq (a .outtoggle) (b .outtoggle) (c 8) in
     let e9 = beq-eq (a .current) (b .current) (c 9) in
-    λ i. record { bytes = e0 i; setup = e1 i; count = e2 i; armed = e3 i; readpos = e4 i; writepos = e5 i; setuppos = e6 i; intoggle = e7 i; outtoggle = e8 i; current = e9 i }
+    λ i. record {
+      bytes = e0 i;
+      setup = e1 i;
+      count = e2 i;
+      armed = e3 i;
+      readpos = e4 i;
+      writepos = e5 i;
+      setuppos = e6 i;
+      intoggle =
+          e7 i;
+      outtoggle = e8 i;
+      current = e9 i;
+    }
 
 same-ep1 : (a b : Endpoint1) → sameEp1 a b ≡ true → a ≡ b
 same-ep1 a b e =

@@ -86,8 +86,10 @@ pub sound-clauses : (c : Chip) → soundChip c ≡ true → Sound c
 unfolding soundChip
 sound-clauses c t =
     let g = c .registers in
-    let part = clause-at (soundEp0 (c .ep0) ∷ soundEp1 (c .ep1) ∷ soundEp2 (c .ep2) ∷ soundEp3 (c .ep3) ∷ soundRegisters g ∷ soundIrqs c ∷ []) t in
-    let ep0 = clause-at (leb (c .ep0 .count) 64 ∷ leb (c .ep0 .readpos) 64 ∷ leb (c .ep0 .writepos) 64 ∷ leb (c .ep0 .setuppos) 8 ∷ []) (part 0) in
+    let part = clause-at (soundEp0 (c .ep0) ∷ soundEp1 (c .ep1) ∷ soundEp2 (c .ep2) ∷ soundEp3 (c .ep3) ∷ soundRegisters g ∷ soundIrqs c ∷
+    []) t in
+    let ep0 = clause-at (leb (c .ep0 .count) 64 ∷ leb (c .ep0 .readpos) 64 ∷ leb (c .ep0 .writepos) 64 ∷ leb (c .ep0 .setuppos) 8 ∷ [])
+    (part 0) in
     let ep1 = clause-at (soundRing 2 (c .ep1 .ring) ∷ leb (c .ep1 .readpos) 64 ∷ []) (part 1) in
     let ep2 = clause-at (soundRing 2 (c .ep2 .ring) ∷ leb (c .ep2 .count) 64 ∷ leb (c .ep2 .writepos) 64 ∷ []) (part 2) in
     let ep3 = clause-at (leb (c .ep3 .count) 64 ∷ leb (c .ep3 .writepos) 64 ∷ []) (part 3) in
@@ -123,7 +125,8 @@ sound-clauses c t =
 registers-sound : (c : Chip) → Clean (bytesOf (c .registers)) unusedRegisters → soundRegisters (c .registers) ≡ true
 registers-sound c h =
     clauses-all (lackEach (bytesOf (c .registers)) unusedRegisters)
-    (λ i. lack-at (bytesOf (c .registers)) unusedRegisters i refl ∙ not-false (lacks (getD (bytesOf (c .registers)) i 0) (getD unusedRegisters i 0)) (h i))
+    (λ i. lack-at (bytesOf (c .registers)) unusedRegisters i refl ∙ not-false
+    (lacks (getD (bytesOf (c .registers)) i 0) (getD unusedRegisters i 0)) (h i))
 
 pub clauses-sound : (c : Chip) → Sound c → soundChip c ≡ true
 unfolding soundChip

@@ -14,7 +14,8 @@ use Rattle.chip.specs.declared.Chip.{Chip}
 -- what R9 to R20 hold, R9 first; R18 reads 1 (h)
 abbrev pub bytesOf : Registers → List ℕ
 bytesOf g =
-    g .epstalls ∷ g .clrtogs ∷ g .epirq ∷ g .epien ∷ g .usbirq ∷ g .usbien ∷ g .usbctl ∷ g .cpuctl ∷ g .pinctl ∷ 1 ∷ g .fnaddr ∷ g .iopins ∷ []
+    g .epstalls ∷ g .clrtogs ∷ g .epirq ∷ g .epien ∷ g .usbirq ∷ g .usbien ∷ g .usbctl ∷ g .cpuctl ∷ g .pinctl ∷ 1 ∷ g .fnaddr ∷ g .iopins
+    ∷ []
 
 -- and back: place 9 is R18, which is not stored
 abbrev pub ofBytes : List ℕ → Registers

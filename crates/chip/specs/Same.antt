@@ -22,7 +22,8 @@ sameNumbers (x ∷ xs) (y ∷ ys) = eqb x y && sameNumbers xs ys
 
 abbrev pub sameRing : Ring → Ring → Bool
 sameRing a b =
-    clauses (sameNumbers (a .bytes) (b .bytes) ∷ sameNumbers (a .counts) (b .counts) ∷ eqb (a .oldest) (b .oldest) ∷ eqb (a .waiting) (b .waiting) ∷ [])
+    clauses (sameNumbers (a .bytes) (b .bytes) ∷ sameNumbers (a .counts) (b .counts) ∷ eqb (a .oldest) (b .oldest) ∷ eqb (a .waiting)
+    (b .waiting) ∷ [])
 
 abbrev pub sameRegisters : Registers → Registers → Bool
 sameRegisters a b = sameNumbers (bytesOf a) (bytesOf b)

@@ -55,4 +55,5 @@ soundIrqs c =
 
 unfoldable pub soundChip : Chip → Bool
 soundChip c =
-    clauses (soundEp0 (c .ep0) ∷ soundEp1 (c .ep1) ∷ soundEp2 (c .ep2) ∷ soundEp3 (c .ep3) ∷ soundRegisters (c .registers) ∷ soundIrqs c ∷ [])
+    clauses (soundEp0 (c .ep0) ∷ soundEp1 (c .ep1) ∷ soundEp2 (c .ep2) ∷ soundEp3 (c .ep3) ∷ soundRegisters (c .registers) ∷ soundIrqs c ∷
+    [])

@@ -196,20 +196,111 @@ impl Chip {
 
     pub const SETUP: usize = 8;
 
+    // R5, EP0BC
+    pub const COUNT_BITS: u8 = 0x7f;
+
+    // R9, EPSTALLS
+    pub const ACKSTAT: u8 = 0x40;
+
+    pub const STLSTAT: u8 = 0x20;
+
+    pub const STLEP3IN: u8 = 0x10;
+
+    pub const STLEP2IN: u8 = 0x08;
+
+    pub const STLEP1OUT: u8 = 0x04;
+
+    pub const STLEP0OUT: u8 = 0x02;
+
+    pub const STLEP0IN: u8 = 0x01;
+
+    pub const EPSTALLS_BITS: u8 = 0x7f;
+
+    // R10, CLRTOGS
+    pub const EP3DISAB: u8 = 0x80;
+
+    pub const EP2DISAB: u8 = 0x40;
+
+    pub const EP1DISAB: u8 = 0x20;
+
+    pub const CTGEP3IN: u8 = 0x10;
+
+    pub const CTGEP2IN: u8 = 0x08;
+
+    pub const CTGEP1OUT: u8 = 0x04;
+
+    pub const DISABLE_BITS: u8 = 0xe0;
+
     // R11, EPIRQ
+    pub const SUDAVIRQ: u8 = 0x20;
+
     pub const IN3BAVIRQ: u8 = 0x10;
 
     pub const IN2BAVIRQ: u8 = 0x08;
 
     pub const OUT1DAVIRQ: u8 = 0x04;
 
+    pub const OUT0DAVIRQ: u8 = 0x02;
+
+    pub const IN0BAVIRQ: u8 = 0x01;
+
+    pub const EPIRQ_BITS: u8 = 0x3f;
+
+    // Those that a 1 clears and no packet goes with.
+    pub const CLEARED_EPIRQS: u8 = 0x23;
+
+    // R12, EPIEN
+    pub const EPIEN_BITS: u8 = 0x3f;
+
+    // R13, USBIRQ
+    pub const URESDNIRQ: u8 = 0x80;
+
+    pub const VBUSIRQ: u8 = 0x40;
+
+    pub const NOVBUSIRQ: u8 = 0x20;
+
+    pub const SUSPIRQ: u8 = 0x10;
+
+    pub const BUSACTIRQ: u8 = 0x04;
+
+    pub const OSCOKIRQ: u8 = 0x01;
+
+    // SUSPIRQ and URESIRQ, which reply byte 0 shows.
+    pub const STATUS_IRQS: u8 = 0x18;
+
+    // R15, USBCTL
+    pub const VBGATE: u8 = 0x40;
+
+    pub const CHIPRES: u8 = 0x20;
+
+    pub const CONNECT: u8 = 0x08;
+
+    pub const USBCTL_BITS: u8 = 0xfc;
+
     // R16, CPUCTL
     pub const IE: u8 = 0x01;
 
     // R17, PINCTL
+    pub const EP3INAK: u8 = 0x80;
+
+    pub const EP2INAK: u8 = 0x40;
+
+    pub const EP0INAK: u8 = 0x20;
+
+    pub const FDUPSPI: u8 = 0x10;
+
     pub const INTLEVEL: u8 = 0x08;
 
     pub const POSINT: u8 = 0x04;
+
+    pub const INAK_BITS: u8 = 0xe0;
+
+    pub const PIN_BITS: u8 = 0x1f;
+
+    // R20, IOPINS
+    pub const INPUT_BITS: u8 = 0xf0;
+
+    pub const OUTPUT_BITS: u8 = 0x0f;
 
     pub fn power_on() -> Self
         ensures { λ r. ⌜ r ≡ powerOnChip ⌝ }

@@ -20,7 +20,8 @@ use Rattle.request.specs.declared.Decision.{Decision}
 use Rattle.request.specs.declared.Decision.the-variants.{Stall, Send, Accept}
 use Rattle.bits.proofs.First.{none, _⨾_, first-each, first-map}
 use Rattle.request.proofs.Sound.{nextOf, decision-sound}
-use Rattle.firmware.specs.Answer.{Handled, counted, decisionServed, servedOf, refusedWith, refusals, handled, requestRefusal, requestKind, requestCount, numbered, unlessRefused, decisionKind, decisionCount, Numbers}
+use Rattle.firmware.specs.Answer.{Handled, counted, decisionServed, servedOf, refusedWith, refusals, handled, requestRefusal}
+use Rattle.firmware.specs.Answer.{requestKind, requestCount, numbered, unlessRefused, decisionKind, decisionCount, Numbers}
 use Rattle.firmware.specs.Run.{Question, recordAfter}
 use Rattle.refusal.specs.declared.Refusal.{Refusal}
 use Rattle.refusal.specs.declared.Refusal.the-variants.{Unsound, ShortBuffer, BadPayload}
@@ -60,14 +61,17 @@ kind-counted n = first-map requestKind ((eqb n 0, RequestReply.Ack) ∷ []) (Req
 -- ACK only counts no bytes
 count-counted : (n : ℕ) → requestCount (counted n) ≡ n
 count-counted n =
-    first-each (λ (r : RequestReply). requestCount r ≡ n) ((eqb n 0, RequestReply.Ack) ∷ []) (RequestReply.Data n) ((λ t. sym (eqb-true n 0 t)) ⨾ none) refl
+    first-each (λ (r : RequestReply). requestCount r ≡ n) ((eqb n 0, RequestReply.Ack) ∷ []) (RequestReply.Data n)
+    ((λ t. sym (eqb-true n 0 t)) ⨾ none) refl
 
-decision-kind : (d : Decision) (w : ℕ) (f : Firmware) (reply : List ℕ) → requestKind (decisionServed d w f reply .answer .reply) ≡ decisionKind d w
+decision-kind : (d : Decision) (w : ℕ) (f : Firmware) (reply : List ℕ) → requestKind (decisionServed d w f reply .answer .reply)
+    ≡ decisionKind d w
 decision-kind Stall w f reply = refl
 decision-kind (Send d) w f reply = kind-counted (count (bytesOf d) w)
 decision-kind (Accept next e) w f reply = refl
 
-decision-count : (d : Decision) (w : ℕ) (f : Firmware) (reply : List ℕ) → requestCount (decisionServed d w f reply .answer .reply) ≡ decisionCount d w
+decision-count : (d : Decision) (w : ℕ) (f : Firmware) (reply : List ℕ) → requestCount (decisionServed d w f reply .answer .reply)
+    ≡ decisionCount d w
 decision-count Stall w f reply = refl
 decision-count (Send d) w f reply = count-counted (count (bytesOf d) w)
 decision-count (Accept next e) w f reply = refl
@@ -112,7 +116,8 @@ next-record Stall wlength f reply = refl
 next-record (Send d) wlength f reply = refl
 next-record (Accept next e) wlength f reply = refl
 
-pub answer-sound : (setup : List ℕ) (f : Firmware) (reply : List ℕ) → soundFirmware f ≡ true → soundFirmware (handled setup f reply .answer .firmware) ≡ true
+pub answer-sound : (setup : List ℕ) (f : Firmware) (reply : List ℕ) → soundFirmware f ≡ true → soundFirmware
+    (handled setup f reply .answer .firmware) ≡ true
 unfolding servedOf
 answer-sound setup f reply sound =
     let q = requestOf setup in
@@ -143,6 +148,7 @@ answer-within setup f reply = within (ltb (length reply) 64) refl
     within : (short : Bool) → ltb (length reply) 64 ≡ short → requestCount (handled setup f reply .answer .reply) ≤ length reply
     within true e =
         rw e
-        (first-each (λ (o : Handled). requestCount (o .answer .reply) ≤ length reply) ((not (soundFirmware f), refusedWith Unsound f reply) ∷ []) (refusedWith ShortBuffer f reply)
+        (first-each (λ (o : Handled). requestCount (o .answer .reply) ≤ length reply)
+        ((not (soundFirmware f), refusedWith Unsound f reply) ∷ []) (refusedWith ShortBuffer f reply)
         ((λ t. zero-le) ⨾ none) zero-le)
     within false e = le-trans (answer-fits setup f reply) (ltb-false (length reply) 64 e)

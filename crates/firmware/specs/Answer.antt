@@ -65,7 +65,8 @@ abbrev pub decisionServed : Decision → ℕ → Firmware → List ℕ → Handl
 decisionServed Decision.Stall wlength f reply = record { answer = unchanged Stall f; buffer = reply }
 decisionServed (Decision.Send d) wlength f reply =
     record { answer = unchanged (counted (count (bytesOf d) wlength)) f; buffer = written (bytesOf d) wlength reply }
-decisionServed (Decision.Accept next e) wlength f reply = record { answer = record { reply = Ack; firmware = next; endpoints = e }; buffer = reply }
+decisionServed (Decision.Accept next e) wlength f reply =
+    record { answer = record { reply = Ack; firmware = next; endpoints = e }; buffer = reply }
 
 unfoldable pub servedOf : Request → Firmware → List ℕ → Handled
 servedOf q f reply = decisionServed (decisionOf q f) (q .wlength) f reply

@@ -13,9 +13,11 @@ use Rattle.model.specs.declared.Checked.{Checked}
 use Rattle.model.specs.declared.Checked.the-variants.{Accepted, Refused}
 use Rattle.model.specs.Reply.{Outcome, Reply}
 use Rattle.model.specs.Spi.{commandRegister, commandWrites, commandAcknowledges, byteTo, readTo, burstTo, commandTo, transferTo}
-use Rattle.model.specs.Call.{Call, transfer, event, Answer, refused, Model, acceptedOutcome, checked, checkedTo, checkedAnswer, callTo, answerOf, runTo, history}
+use Rattle.model.specs.Call.{Call, transfer, event, Answer, refused, Model, acceptedOutcome, checked, checkedTo, checkedAnswer}
+use Rattle.model.specs.Call.{callTo, answerOf, runTo, history}
 use Rattle.model.specs.Book.{Book, noteBurst, noteTransfer, noteAccepted, note, bookOf}
-use Rattle.model.specs.Condition.{Condition, always, breaksBurst, breaksTransfer, breaksAccepted, breaksChecked, breaksCall, breaksRun}
+use Rattle.model.specs.Condition.{Condition, always, breaksBurst, breaksTransfer, breaksAccepted, breaksChecked, breaksCall}
+use Rattle.model.specs.Condition.{breaksRun}
 use Rattle.model.proofs.Refusals.{short-out}
 
 -- ---- rows
@@ -46,7 +48,8 @@ pub record Keeps {R B : Type 0} (m : Model R) (q : Book B) (s : Condition R) (I 
 -- ---- a transfer
 
 module _ {R B : Type 0} {m : Model R} {q : Book B} {s : Condition R} {I : B → R → Type 0} (w : Keeps m q s I) where
-  writes-keep : (bs : List ℕ) (n : ℕ) (l : B) (c : R) → breaksBurst m s c n bs ≡ false → I l c → I (noteBurst q l n bs) (burstTo (m .spi) c true n bs)
+  writes-keep : (bs : List ℕ) (n : ℕ) (l : B) (c : R) → breaksBurst m s c n bs ≡ false → I l c → I (noteBurst q l n bs)
+      (burstTo (m .spi) c true n bs)
   unfolding noteBurst burstTo breaksBurst
   writes-keep [] n l c h i = i
   writes-keep (b ∷ bs) n l c h i =
@@ -69,9 +72,11 @@ module _ {R B : Type 0} {m : Model R} {q : Book B} {s : Condition R} {I : B → 
   burst-keeps true bs n l c h i = writes-keep bs n l c h i
   burst-keeps false bs n l c h i = reads-keep bs n l c i
 
-  transfer-keeps : (bs : List ℕ) (l : B) (c : R) → breaksTransfer m s c bs ≡ false → I l c → I (noteTransfer q l bs) (transferTo (m .spi) c bs)
+  transfer-keeps : (bs : List ℕ) (l : B) (c : R) → breaksTransfer m s c bs ≡ false → I l c → I (noteTransfer q l bs)
+      (transferTo (m .spi) c bs)
   transfer-keeps [] l c h i = i
-  transfer-keeps (k ∷ bs) l c h i = burst-keeps (commandWrites k) bs (commandRegister k) l (commandTo (m .spi) c k) h (command-keeps k l c i)
+  transfer-keeps (k ∷ bs) l c h i = burst-keeps (commandWrites k) bs (commandRegister k) l (commandTo (m .spi) c k) h
+      (command-keeps k l c i)
 
   -- ---- a call
 
@@ -79,7 +84,8 @@ module _ {R B : Type 0} {m : Model R} {q : Book B} {s : Condition R} {I : B → 
       → I (noteAccepted q l k (acceptedOutcome m c k .gives)) (acceptedOutcome m c k .state)
   accepted-keeps (transfer bytes room) l c accepted h i = transfer-keeps bytes l c h i
   accepted-keeps (event e payload room) l c accepted h i =
-      w .events (e .code) l c e payload refl (short-out (m .sound c) e (length payload) room (m .further c (event e payload room)) accepted) h i
+      w .events (e .code) l c e payload refl
+      (short-out (m .sound c) e (length payload) room (m .further c (event e payload room)) accepted) h i
 
   checked-keeps : (k : Call) (l : B) (c : R) (v : Checked) → checked m c k ≡ v → breaksChecked m s c k v ≡ false → I l c
       → I (note q l k (checkedAnswer m c k v)) (checkedTo m c k v)
@@ -129,7 +135,8 @@ module _ {R : Type 0} (m : Model R) where
 
 -- ---- a refused call changes neither state nor book
 
-refused-only : {R B : Type 0} (m : Model R) (q : Book B) (l : B) (c : R) (k : Call) (r : Refusal) (v : Checked) → checkedAnswer m c k v ≡ refused r
+refused-only : {R B : Type 0} (m : Model R) (q : Book B) (l : B) (c : R) (k : Call) (r : Refusal) (v : Checked) → checkedAnswer m c k v
+    ≡ refused r
     → (checkedTo m c k v ≡ c) × (note q l k (checkedAnswer m c k v) ≡ l) × (v ≡ Refused r)
 unfolding note
 refused-only m q l c k r Accepted e = let z : _≡_ {A = ℕ} 0 1 = cc in absurd (omega arith)

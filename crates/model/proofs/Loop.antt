@@ -10,7 +10,8 @@ use lib.ListN.{length, getD, set, take, drop, length-set, take-append-drop}
 use lib.Seq.{drop-cons, take-suc-set, drop-set-lt, drop-drop, drop-length}
 use Rattle.model.specs.Spi.{Spi, byteTo, byteOf, burstTo, burstOf}
 
-pub record Turn {R : Type 0} (f : Spi R) (w : Bool) (xs ys₀ : List ℕ) (k : ℕ) (c₀ : R) (r₀ : ℕ) (ys : List ℕ) (c : R) (r i : ℕ) : Type 0 where
+pub record Turn {R : Type 0} (f : Spi R) (w : Bool) (xs ys₀ : List ℕ) (k : ℕ) (c₀ : R) (r₀ : ℕ) (ys : List ℕ) (c : R)
+    (r i : ℕ) : Type 0 where
   pub within : i ≤ length xs
   pub sized : length ys ≡ length ys₀
   pub state : burstTo f c w r (drop i xs) ≡ burstTo f c₀ w r₀ (drop k xs)
@@ -21,7 +22,8 @@ module _ {R : Type 0} (f : Spi R) where
   pub start : (w : Bool) (xs ys : List ℕ) (k : ℕ) (c : R) (r : ℕ) → k ≤ length xs → Turn f w xs ys k c r ys c r k
   start w xs ys k c r h = record { within = omega arith; sized = refl; state = refl; done = refl; rest = refl }
 
-  pub turn : (w : Bool) (xs ys₀ : List ℕ) (k : ℕ) (c₀ : R) (r₀ : ℕ) (ys : List ℕ) (c : R) (r i : ℕ) → Turn f w xs ys₀ k c₀ r₀ ys c r i → i < length xs
+  pub turn : (w : Bool) (xs ys₀ : List ℕ) (k : ℕ) (c₀ : R) (r₀ : ℕ) (ys : List ℕ) (c : R) (r i : ℕ) → Turn f w xs ys₀ k c₀ r₀ ys c r i
+      → i < length xs
       → length xs ≤ length ys₀ → Turn f w xs ys₀ k c₀ r₀ (set ys i (byteOf f c w r)) (byteTo f c w r (getD xs i 0)) (f .step r) (i + 1)
   unfolding burstTo burstOf
   turn w xs ys₀ k c₀ r₀ ys c r i t h room =

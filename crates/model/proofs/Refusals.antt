@@ -16,7 +16,8 @@ use Rattle.refusal.specs.declared.Refusal.the-variants.{Unsound}
 use Rattle.model.specs.declared.Event.{Event}
 use Rattle.model.specs.declared.Checked.{Checked}
 use Rattle.model.specs.declared.Checked.the-variants.{Accepted, Refused}
-use Rattle.model.specs.Call.{Call, transfer, event, transferGrounds, eventGrounds, grounds, ground, check, checkedNumber, isOut, isSetup}
+use Rattle.model.specs.Call.{Call, transfer, event, transferGrounds, eventGrounds, grounds, ground, check, checkedNumber, isOut}
+use Rattle.model.specs.Call.{isSetup}
 
 abbrev isAccepted : Checked → Bool
 isAccepted Accepted = true
@@ -69,10 +70,12 @@ other v n e = n (ap checkedNumber e)
 pub sound-accepted : (k : Call) (gs : List (Bool × Refusal)) → Each NotUnsound (map ground gs) → NotUnsound (check (grounds true k ++ gs))
 sound-accepted (transfer bytes room) gs others =
     first-each NotUnsound (map ground (transferGrounds true (length bytes) room ++ gs)) Accepted
-    ((λ t. true-is-false (sym t)) ⨾ (λ t. other _ (λ e. omega arith)) ⨾ (λ t. other _ (λ e. omega arith)) ⨾ (λ t. other _ (λ e. omega arith)) ⨾ others)
+    ((λ t. true-is-false (sym t)) ⨾ (λ t. other _ (λ e. omega arith)) ⨾ (λ t. other _ (λ e. omega arith)) ⨾
+    (λ t. other _ (λ e. omega arith)) ⨾ others)
     (other Accepted (λ e. omega arith))
 sound-accepted (event v payload room) gs others =
     first-each NotUnsound (map ground (eventGrounds true v (length payload) room ++ gs)) Accepted
-    ((λ t. true-is-false (sym t)) ⨾ (λ t. other _ (λ e. omega arith)) ⨾ (λ t. other _ (λ e. omega arith)) ⨾ (λ t. other _ (λ e. omega arith))
+    ((λ t. true-is-false (sym t)) ⨾ (λ t. other _ (λ e. omega arith)) ⨾ (λ t. other _ (λ e. omega arith)) ⨾
+    (λ t. other _ (λ e. omega arith))
     ⨾ (λ t. other _ (λ e. omega arith)) ⨾ others)
     (other Accepted (λ e. omega arith))

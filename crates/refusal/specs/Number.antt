@@ -1,7 +1,8 @@
 -- The numbers of refusal (document 01).
 use Prim.Native.Nat.{ℕ}
 use Rattle.refusal.specs.declared.Refusal.{Refusal}
-use Rattle.refusal.specs.declared.Refusal.the-variants.{Unsound, NoCommand, LongTransfer, ShortBuffer, UnknownEvent, BadPayload, BadAddress}
+use Rattle.refusal.specs.declared.Refusal.the-variants.{Unsound, NoCommand, LongTransfer, ShortBuffer, UnknownEvent, BadPayload}
+use Rattle.refusal.specs.declared.Refusal.the-variants.{BadAddress}
 
 abbrev pub refusalNumber : Refusal → ℕ
 refusalNumber Unsound = 1

@@ -36,7 +36,8 @@ module _ (q : Request) (f : Firmware) (sound : soundFirmware f ≡ true) where
   configure : (asks q 0x00 0x09 && eqb (q .windex) 0 && noData q && leb (q .wvalue) 1) ≡ true
       → soundFirmware (setHalted false (setConfiguration (wvaluel q) f)) ≡ true
   configure t =
-      let small : q .wvalue ≤ 1 = leb-true _ 1 (and-eq-true-iff (asks q 0x00 0x09 && eqb (q .windex) 0 && noData q) (leb (q .wvalue) 1) .0 t .1) in
+      let small : q .wvalue ≤ 1 = leb-true _ 1
+      (and-eq-true-iff (asks q 0x00 0x09 && eqb (q .windex) 0 && noData q) (leb (q .wvalue) 1) .0 t .1) in
       let low : wvaluel q ≤ 1 = omega arith in
       rw (le-leb _ 1 low)
 

@@ -78,7 +78,11 @@ rules q f =
     -- 80 08: the configuration
     ∷ (asks q 0x80 0x08 && fields q 0 0, Send (Byte (f .configuration)))
     -- 00 09, wValue 0 or 1: sets it, ends a halt, clears all three toggles
-    ∷ (asks q 0x00 0x09 && eqb (q .windex) 0 && noData q && leb (q .wvalue) 1, Accept (setHalted false (setConfiguration (wvaluel q) f)) Configure)
+    ∷ (
+      asks q 0x00 0x09 && eqb (q .windex) 0 && noData q && leb (q .wvalue) 1,
+      Accept
+          (setHalted false (setConfiguration (wvaluel q) f)) Configure,
+    )
     -- 80 06: types 1, 2; 3 with an index that exists and any wIndex
     ∷ (asks q 0x80 0x06 && eqb (wvalueh q) 0x01 && plain q, Send Device)
     ∷ (asks q 0x80 0x06 && eqb (wvalueh q) 0x02 && plain q, Send Configuration)

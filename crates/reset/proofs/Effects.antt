@@ -24,7 +24,12 @@ pub reset-sound : (k : Reset) (c : Chip) → soundChip (chipAfter k c) ≡ true
 unfolding soundChip
 reset-sound PowerOn c = simp and-zero-r
 reset-sound ChipReset c = simp (and-zero-r, lacks-masked-cleared 0xfc 0 (c .registers .usbctl) 0x03 refl refl)
-reset-sound BusReset c = simp (and-zero-r, lacks-masked-cleared 0xfc 0 (c .registers .usbctl) 0x03 refl refl, lacks-masked-cleared 0x01 0 (c .registers .cpuctl) 0xfe refl refl)
+reset-sound BusReset c = simp (
+  and-zero-r,
+  lacks-masked-cleared 0xfc 0 (c .registers .usbctl) 0x03 refl refl,
+  lacks-masked-cleared 0x01 0
+      (c .registers .cpuctl) 0xfe refl refl,
+)
 
 pub power-on-sound : soundChip powerOnChip ≡ true
 unfolding soundChip powerOnChip
@@ -32,7 +37,8 @@ power-on-sound = refl
 
 -- nothing waits
 pub reset-empties : (k : Reset) (c : Chip)
-    → (queue 2 (chipAfter k c .ep1 .ring) ≡ []) × (queue 2 (chipAfter k c .ep2 .ring) ≡ []) × (chipAfter k c .ep0 .armed ≡ false) × (chipAfter k c .ep3 .armed ≡ false)
+    → (queue 2 (chipAfter k c .ep1 .ring) ≡ []) × (queue 2 (chipAfter k c .ep2 .ring) ≡ []) × (chipAfter k c .ep0 .armed ≡ false) ×
+    (chipAfter k c .ep3 .armed ≡ false)
 reset-empties PowerOn c = (refl, refl, refl, refl)
 reset-empties ChipReset c = (refl, refl, refl, refl)
 reset-empties BusReset c = (refl, refl, refl, refl)

@@ -27,7 +27,8 @@ registers-after PowerOn c = rw (and-zero-r (oldestCount 2 (c .ep1 .ring)))
 registers-after ChipReset c = rw (and-zero-r (oldestCount 2 (c .ep1 .ring)))
 registers-after BusReset c = rw (and-zero-r (oldestCount 2 (c .ep1 .ring)))
 
-pub reset-law : (k : Reset) (c : Chip) (n : ℕ) → 5 ≤ n → n < pastRows → controlRegister (chipAfter k c) n ≡ registerAfter k n (controlRegister c n)
+pub reset-law : (k : Reset) (c : Chip) (n : ℕ) → 5 ≤ n → n < pastRows → controlRegister (chipAfter k c) n ≡ registerAfter k n
+    (controlRegister c n)
 reset-law k c n h l =
     let number : 5 + (n - 5) ≡ n = omega arith in
     ap (λ (xs : List ℕ). getD xs (n - 5) 0) (registers-after k c)

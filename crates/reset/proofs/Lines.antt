@@ -30,7 +30,8 @@ says : Fate → Line → ℕ → Bool
 says one l b = eqb (bit (l .value) b) 1
 says kept l b = eqb (bit (l .keep) b) 1 && eqb (bit (l .value) b) 0
 
-says-so : (o : Fate) (l : Line) (b x : ℕ) → says o l b ≡ true → max (min (bit x b) (bit (l .keep) b)) (bit (l .value) b) ≡ fateOf o (bit x b)
+says-so : (o : Fate) (l : Line) (b x : ℕ) → says o l b ≡ true → max (min (bit x b) (bit (l .keep) b)) (bit (l .value) b) ≡ fateOf o
+    (bit x b)
 unfolding says
 says-so one l b x t =
     let v : bit (l .value) b ≡ 1 = eqb-true (bit (l .value) b) 1 t in
@@ -52,7 +53,8 @@ right-holds a t c =
     let q = and-true (leb 5 (a .register)) (ltb (a .register) pastRows) (p .0) in
     let l : Line = lineOf (rowOf (a .register)) (a .reset) in
     let x : ℕ = controlRegister c (a .register) in
-    ap (λ (n : ℕ). bit n (a .bitNumber)) (reset-law (a .reset) c (a .register) (leb-true 5 (a .register) (q .0)) (ltb-true (a .register) pastRows (q .1)))
+    ap (λ (n : ℕ). bit n (a .bitNumber))
+    (reset-law (a .reset) c (a .register) (leb-true 5 (a .register) (q .0)) (ltb-true (a .register) pastRows (q .1)))
     ∙ bit-masked (l .keep) (l .value) x (a .bitNumber)
     ∙ says-so (a .becomes) l (a .bitNumber) x (p .1)
 

@@ -52,7 +52,14 @@ abbrev pub ep2After : Reset → Endpoint2 → Endpoint2
 ep2After k e = record { ring = ringAfter k (e .ring); count = registerAfter k 7 (e .count); writepos = 0; toggle = false }
 
 abbrev pub ep3After : Reset → Endpoint3 → Endpoint3
-ep3After k e = record { bytes = bytesAfter k 64 (e .bytes); count = registerAfter k 8 (e .count); armed = false; writepos = 0; toggle = false }
+ep3After k e = record {
+  bytes = bytesAfter k 64 (e .bytes);
+  count = registerAfter k 8 (e .count);
+  armed = false;
+  writepos = 0;
+  toggle =
+      false;
+}
 
 -- R9 to R20 by the one rule
 abbrev pub registersAfter : Reset → Registers → Registers

@@ -10,7 +10,8 @@ use ring::Ring;
 ghost use mathlib.Core.Path.{_≡_};
 ghost use Prim.Native.Nat.{_≤_, _<_};
 ghost use Rattle.reset.specs.Table.{pastRows, rowOf, lineOf, registerAfter};
-ghost use Rattle.reset.specs.Reset.{wipes, bytesAfter, ringAfter, ep0After, ep1After, ep2After, ep3After, registersAfter, powerAfter, chipAfter};
+ghost use Rattle.reset.specs.Reset.{wipes, bytesAfter, ringAfter, ep0After, ep1After};
+ghost use Rattle.reset.specs.Reset.{ep2After, ep3After, registersAfter, powerAfter, chipAfter};
 
 pub enum Reset {
     PowerOn,

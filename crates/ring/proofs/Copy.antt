@@ -13,11 +13,22 @@ pub copied-in : (xs vs : List ℕ) (a n : ℕ) → length xs ≡ n → a + lengt
 copied-in xs vs a n long fits =
     let rest : length (drop a xs) ≤ n - a = rw (length-drop a xs) (omega arith) in
     let within : a + length vs ≤ length xs = omega arith in
-    rw (take-length vs, take-all (n - a) (drop a xs) rest, drop-of-length-le (drop a xs) rest, drop-drop (length vs) a xs, append-nil, sets-eq vs xs a within)
+    rw (
+      take-length vs,
+      take-all (n - a) (drop a xs) rest,
+      drop-of-length-le (drop a xs) rest,
+      drop-drop (length vs) a xs,
+      append-nil,
+      sets-eq vs xs a within,
+    )
     (sym (append-assoc (take a xs) vs (drop (a + length vs) xs)))
 
 -- copied to the front of dst, src stands there, and the rest of dst stays
-pub copied-out : (src p dst out : List ℕ) (n r : ℕ) → src ≡ p → length p ≡ n → r ≡ length src → out ≡ take (length src) src ++ drop (length src) dst
+pub copied-out : (src p dst out : List ℕ) (n r : ℕ) → src ≡ p → length p ≡ n → r ≡ length src → out ≡ take (length src) src ++ drop
+    (length src) dst
     → (r ≡ n) × (out ≡ p ++ drop r dst)
-copied-out src p dst out n r same long count copied =
-    (count ∙ ap length same ∙ long, copied ∙ ap (λ (l : List ℕ). l ++ drop (length src) dst) (take-length src ∙ same) ∙ ap (λ (k : ℕ). p ++ drop k dst) (sym count))
+copied-out src p dst out n r same long count copied = (
+  count ∙ ap length same ∙ long,
+  copied ∙ ap (λ (l : List ℕ). l ++ drop (length src) dst) (take-length src ∙ same) ∙ ap
+      (λ (k : ℕ). p ++ drop k dst) (sym count),
+)

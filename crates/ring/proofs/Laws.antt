@@ -14,7 +14,8 @@ use borrow.Author.Tests.{leb-true, ltb-true, eq-eqb, ne-eqb, lt-ltb, le-leb}
 use Rattle.bits.specs.Clauses.{clauses}
 use Rattle.bits.proofs.Cases.{cond-elim, clause-at, clauses-all}
 use Rattle.ring.specs.declared.Ring.{Ring}
-use Rattle.ring.specs.Ring.{packet, packets, queue, full, nextBuffer, oldestCount, oldestPacket, withBytes, storeByte, armNext, withPayload, fillNext, withoutOldest, releaseOldest, drained, soundCounts, soundRing, Fits}
+use Rattle.ring.specs.Ring.{packet, packets, queue, full, nextBuffer, oldestCount, oldestPacket, withBytes, storeByte, armNext}
+use Rattle.ring.specs.Ring.{withPayload, fillNext, withoutOldest, releaseOldest, drained, soundCounts, soundRing, Fits}
 use Rattle.ring.proofs.Packet.{packet-set-other, packet-sets-other, packet-sets-same}
 use Rattle.ring.proofs.Places.{places-apart}
 use Rattle.ring.proofs.Queue.{packets-length, packets-round, packets-more, packets-same}
@@ -58,7 +59,8 @@ module _ (n : ℕ) (r : Ring) (sound : soundRing n r ≡ true) where
   sound-size i h =
       let rest = ltb (r .oldest) n ∷ leb (r .waiting) n ∷ [] in
       leb-true (getD (r .counts) i 0) 64
-      (ap (λ (k : ℕ). leb (getD (r .counts) k 0) 64) (sym (zero-add i)) ∙ sym (count-at (r .counts) rest 0 n i h) ∙ clause-at (soundCounts (r .counts) 0 n ++ rest) sound i)
+      (ap (λ (k : ℕ). leb (getD (r .counts) k 0) 64) (sym (zero-add i)) ∙ sym (count-at (r .counts) rest 0 n i h) ∙ clause-at
+      (soundCounts (r .counts) 0 n ++ rest) sound i)
 
   pub sound-turn : r .oldest < n
   sound-turn = ltb-true (r .oldest) n (rest-at n r sound 0)
@@ -132,7 +134,8 @@ module _ (n : ℕ) (r : Ring) (fits : Fits n r) (l : r .waiting < n) where
       (getD-set-same (r .counts) (nextBuffer n r) c 0 placed)
       ∙ ap (λ (q : List (List ℕ)). q ++ (packet (r .bytes) (nextBuffer n r) c ∷ []))
       (packets-same n (r .bytes) counts (r .bytes) (r .counts) (r .waiting) (r .oldest)
-      (λ j k. ap (packet (r .bytes) ((r .oldest + j) % n)) (getD-set-other (r .counts) (nextBuffer n r) _ c 0 (waits-apart n r fits l j k))))
+      (λ j k. ap (packet (r .bytes) ((r .oldest + j) % n))
+      (getD-set-other (r .counts) (nextBuffer n r) _ c 0 (waits-apart n r fits l j k))))
 
   pub fits-arm : (c : ℕ) → c ≤ 64 → Fits n (armNext n r c)
   fits-arm c h = record {
@@ -162,7 +165,8 @@ module _ (n : ℕ) (r : Ring) (fits : Fits n r) (l : r .waiting < n) (vs : List 
       let inside : nextBuffer n r * 64 + length vs ≤ length (r .bytes) =
       omega (arith, mul-le-mul-right 64 (next-lt n r fits), fits .room) in
       queue-arm n (withPayload n r vs) payload-fits l (length vs)
-      ∙ ap (λ (q : List (List ℕ)). q ++ (packet (sets (r .bytes) (nextBuffer n r * 64) vs) (nextBuffer n r) (length vs) ∷ [])) (queue-payload n r fits vs h l)
+      ∙ ap (λ (q : List (List ℕ)). q ++ (packet (sets (r .bytes) (nextBuffer n r * 64) vs) (nextBuffer n r) (length vs) ∷ []))
+      (queue-payload n r fits vs h l)
       ∙ ap (λ (p : List ℕ). queue n r ++ (p ∷ [])) (packet-sets-same vs (r .bytes) (nextBuffer n r) inside)
 
   pub fits-fill : Fits n (fillNext n r vs)
@@ -181,7 +185,8 @@ module _ (n : ℕ) (r : Ring) where
       ap (packets n (r .bytes) (r .counts) (r .oldest)) one
       ∙ ap (λ (p : List ℕ). p ∷ packets n (r .bytes) (r .counts) (suc (r .oldest)) (r .waiting - 1)) (oldest-head h)
       ∙ ap (λ (q : List (List ℕ)). oldestPacket n r ∷ q)
-      (packets-round n (r .bytes) (r .counts) (r .waiting - 1) (suc (r .oldest)) ((r .oldest + 1) % n) (ap (λ (x : ℕ). x % n) (omega arith) ∙ sym (mod-mod (r .oldest + 1) n))
+      (packets-round n (r .bytes) (r .counts) (r .waiting - 1) (suc (r .oldest)) ((r .oldest + 1) % n)
+      (ap (λ (x : ℕ). x % n) (omega arith) ∙ sym (mod-mod (r .oldest + 1) n))
       ∙ ap (queue n) (sym (release-some n r h)))
 
   pub next-release : 0 < r .waiting → nextBuffer n (releaseOldest n r) ≡ nextBuffer n r
@@ -195,7 +200,8 @@ module _ (n : ℕ) (r : Ring) where
         room = fits .room;
         places = fits .places;
         sound =
-            sound-from n (withoutOldest n r) (sound-size n r (fits .sound)) (mod-lt (r .oldest + 1) (omega (arith, sound-turn n r (fits .sound))))
+            sound-from n (withoutOldest n r) (sound-size n r (fits .sound))
+            (mod-lt (r .oldest + 1) (omega (arith, sound-turn n r (fits .sound))))
             (omega (arith, sound-most n r (fits .sound)));
       })
 

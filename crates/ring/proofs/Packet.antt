@@ -31,12 +31,14 @@ packet-set-other s i j p b c ne hc hp =
           let d : ℕ = (j * 64 + p) - i * 64 in
           let place : j * 64 + p ≡ i * 64 + d = omega arith in
           let past : c ≤ d = omega arith in
-          ap (λ (k : ℕ). packet (set s k b) i c) place ∙ ap (take c) (drop-set-add (i * 64) s d b) ∙ take-set-le c (drop (i * 64) s) d b past
+          ap (λ (k : ℕ). packet (set s k b) i c) place ∙ ap (take c) (drop-set-add (i * 64) s d b) ∙ take-set-le c
+          (drop (i * 64) s) d b past
       | no g ↦ ap (take c) (drop-set-lt (i * 64) s (j * 64 + p) b (omega arith))
     ]
 
 -- and so do many
-pub packet-sets-other : (vs s : List ℕ) (i j p c : ℕ) → i ≢ j → c ≤ 64 → p + length vs ≤ 64 → packet (sets s (j * 64 + p) vs) i c ≡ packet s i c
+pub packet-sets-other : (vs s : List ℕ) (i j p c : ℕ) → i ≢ j → c ≤ 64 → p + length vs ≤ 64 → packet (sets s (j * 64 + p) vs) i c
+    ≡ packet s i c
 packet-sets-other [] s i j p c ne hc hp = refl
 packet-sets-other (v ∷ vs) s i j p c ne hc hp =
     let place : suc (j * 64 + p) ≡ j * 64 + suc p = omega arith in

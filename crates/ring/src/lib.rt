@@ -4,7 +4,8 @@ ghost use mathlib.Core.Path.{_≡_};
 ghost use mathlib.Core.List.{_++_};
 ghost use Prim.Native.Nat.{_<_, _≤_};
 ghost use lib.ListN.{length, getD, drop};
-ghost use Rattle.ring.specs.Ring.{emptyRing, drained, soundRing, nextBuffer, oldestCount, oldestPacket, storeByte, armNext, fillNext, releaseOldest};
+ghost use Rattle.ring.specs.Ring.{emptyRing, drained, soundRing, nextBuffer, oldestCount};
+ghost use Rattle.ring.specs.Ring.{oldestPacket, storeByte, armNext, fillNext, releaseOldest};
 
 pub struct Ring {
     // Buffer i stands at 64 * i.

@@ -92,7 +92,8 @@ waits-is l a q e = rw (e, length-append) (omega arith)
 
 -- as many wait in the ledger as in the record
 pub waiting-is : (l : Ledger) (c : Chip) → SendsOf l c → waitingAt2 (l .sender) ≡ c .ep2 .ring .waiting
-waiting-is l c i = waits-is (l .sender .armed) (l .sender .acknowledged) (queue 2 (c .ep2 .ring)) (i .queued) ∙ queue-length 2 (c .ep2 .ring)
+waiting-is l c i = waits-is (l .sender .armed) (l .sender .acknowledged) (queue 2 (c .ep2 .ring)) (i .queued) ∙ queue-length 2
+    (c .ep2 .ring)
 
 -- every clause of soundness holds
 pub agree-sound : (l : Ledger) (c : Chip) → Agree l c → Sound c

@@ -21,7 +21,8 @@ use Rattle.model.specs.Reply.{Outcome, Reply}
 use Rattle.model.proofs.Keeps.{KeepsEvent}
 use Rattle.rules.specs.Seen.{Connection, connectionOf, seen, heard}
 use Rattle.rules.specs.Control.{ep0Setup, setupTo}
-use Rattle.rules.specs.Event.{EventRule, noEvent, powerOnEvent, stableEvent, vbusOnEvent, vbusOffEvent, pinsEvent, resetStartEvent, raiseUsbirq, whenSeen, setupEvent}
+use Rattle.rules.specs.Event.{EventRule, noEvent, powerOnEvent, stableEvent, vbusOnEvent, vbusOffEvent, pinsEvent}
+use Rattle.rules.specs.Event.{resetStartEvent, raiseUsbirq, whenSeen, setupEvent}
 use Rattle.rules.specs.Ledger.{Ledger, LedgerEvent, unnotedEvent, notePowerOn, noteStable, noteVbus, noteResetStart, notedPower}
 use Rattle.rules.proofs.Agree.{Agree, with-connection, with-ep0, with-unused}
 use Rattle.rules.proofs.Irqs.{agree-epirq, leaves-setup}
@@ -48,29 +49,34 @@ raise-keeps : (l : Ledger) (c : Chip) (m : ℕ) → Agree l c → Agree l (raise
 raise-keeps l c m i = with-unused i (clean-set-any (bytesOf (c .registers)) unusedRegisters 4 _ (i .unused) refl)
 
 -- the ledger notes what is supplied as the record does
-supplied : (l : Ledger) (c : Chip) (f : Power → Power) → Agree l c → notedPower (f (l .connection .power)) l .connection ≡ record { usbctl = c .registers .usbctl; power = f (c .power) }
+supplied : (l : Ledger) (c : Chip) (f : Power → Power) → Agree l c → notedPower (f (l .connection .power)) l .connection
+    ≡ record { usbctl = c .registers .usbctl; power = f (c .power) }
 supplied l c f i = ap (λ (x : Connection). record { usbctl = x .usbctl; power = f (x .power) }) (i .connection)
 
 pub keeps-stable : (n : ℕ) → Kept n stableEvent noteStable
 keeps-stable n l c e vs _ _ _ i =
     cond-elim₂ Agree (has (l .connection .usbctl) chipres) (has (c .registers .usbctl) chipres)
     (ap (λ (x : Connection). has (x .usbctl) chipres) (i .connection)) (λ _. i)
-    (λ _. with-unused (with-connection i (supplied l c (withOscok true) i)) (clean-set-any (bytesOf (c .registers)) unusedRegisters 4 _ (i .unused) refl))
+    (λ _. with-unused (with-connection i (supplied l c (withOscok true) i))
+    (clean-set-any (bytesOf (c .registers)) unusedRegisters 4 _ (i .unused) refl))
 
 -- VBUS that is on already
-still : (c : Chip) (b : Bool) → c .power .vbus ≡ b → record { usbctl = c .registers .usbctl; power = withVbus b (c .power) } ≡ connectionOf c
+still : (c : Chip) (b : Bool) → c .power .vbus ≡ b → record { usbctl = c .registers .usbctl; power = withVbus b (c .power) }
+    ≡ connectionOf c
 still c b e = ap (λ (t : Bool). record { usbctl = c .registers .usbctl; power = withVbus t (c .power) }) (sym e)
 
 pub keeps-vbus-on : (n : ℕ) → Kept n vbusOnEvent (noteVbus true)
 keeps-vbus-on n l c e vs _ _ _ i =
     cond-elim (Agree (notedPower (withVbus true (l .connection .power)) l)) (c .power .vbus)
     (λ on. with-connection i (supplied l c (withVbus true) i ∙ still c true on))
-    (λ _. with-unused (with-connection i (supplied l c (withVbus true) i)) (clean-set-any (bytesOf (c .registers)) unusedRegisters 4 _ (i .unused) refl))
+    (λ _. with-unused (with-connection i (supplied l c (withVbus true) i))
+    (clean-set-any (bytesOf (c .registers)) unusedRegisters 4 _ (i .unused) refl))
 
 pub keeps-vbus-off : (n : ℕ) → Kept n vbusOffEvent (noteVbus false)
 keeps-vbus-off n l c e vs _ _ _ i =
     cond-elim (Agree (notedPower (withVbus false (l .connection .power)) l)) (c .power .vbus)
-    (λ _. with-unused (with-connection i (supplied l c (withVbus false) i)) (clean-set-any (bytesOf (c .registers)) unusedRegisters 4 _ (i .unused) refl))
+    (λ _. with-unused (with-connection i (supplied l c (withVbus false) i))
+    (clean-set-any (bytesOf (c .registers)) unusedRegisters 4 _ (i .unused) refl))
     (λ off. with-connection i (supplied l c (withVbus false) i ∙ still c false off))
 
 pub keeps-pins : (n : ℕ) → Kept n pinsEvent unnotedEvent
@@ -93,7 +99,8 @@ setup-keeps l c vs i =
     (masked (othersThan out0davirq) (sudavirq + in0bavirq) (c .registers .epirq)) (leaves-setup (c .registers .epirq))
     (with-unused
     (with-ep0 i (record { count = i .ep0 .count; readpos = omega arith; writepos = omega arith; setuppos = omega arith }))
-    (clean-set (bytesOf (c .registers)) unusedRegisters 0 (lowered setupStalls x) (i .unused) (has-and x (othersThan setupStalls) (unusedOf 9) ∙ i .unused 0)))
+    (clean-set (bytesOf (c .registers)) unusedRegisters 0 (lowered setupStalls x) (i .unused)
+    (has-and x (othersThan setupStalls) (unusedOf 9) ∙ i .unused 0)))
 
 pub keeps-setup : (n : ℕ) → Kept n setupEvent unnotedEvent
 keeps-setup n l c e vs _ _ _ i =

@@ -27,7 +27,8 @@ use Rattle.rules.specs.declared.InVerdict.{InVerdict}
 use Rattle.rules.specs.declared.InVerdict.the-variants.{Silent, Stall, Nak, Send, Status}
 use Rattle.rules.specs.Seen.{heard}
 use Rattle.rules.specs.Control.{setupByte, setsAddress}
-use Rattle.rules.specs.In.{setInak, addressed, inOutcome, ep0Gone, in0Gone, in0Verdict, in0, ep2Gone, in2Gone, in2Verdict, in2, ep3Gone, in3Gone, in3Verdict, in3}
+use Rattle.rules.specs.In.{setInak, addressed, inOutcome, ep0Gone, in0Gone, in0Verdict, in0, ep2Gone, in2Gone, in2Verdict, in2}
+use Rattle.rules.specs.In.{ep3Gone, in3Gone, in3Verdict, in3}
 use Rattle.rules.specs.Event.{inEvent}
 use Rattle.rules.specs.Ledger.{Ledger, noteIn, noteSent, senderAcknowledged, setSender}
 use Rattle.rules.proofs.Agree.{Agree, with-unused}
@@ -44,7 +45,8 @@ addressed-keeps : (l : Ledger) (c : Chip) → Agree l c → Agree l (addressed c
 addressed-keeps l c i =
     cond-elim (Agree l) (setsAddress c)
     (λ _. with-unused i
-    (clean-set (bytesOf (c .registers)) unusedRegisters 10 (bitAnd (setupByte c 2) fnaddrBits) (i .unused) (has-and-none (setupByte c 2) fnaddrBits (unusedOf 19) refl)))
+    (clean-set (bytesOf (c .registers)) unusedRegisters 10 (bitAnd (setupByte c 2) fnaddrBits) (i .unused)
+    (has-and-none (setupByte c 2) fnaddrBits (unusedOf 19) refl)))
     (λ _. i)
 
 -- where the record after the packet has left agrees, so does the record after any verdict
@@ -60,7 +62,8 @@ in-keeps l inak packet gone c arrives i j Status = cond-elim (Agree l) arrives (
 
 in0-gone : (l : Ledger) (c : Chip) → Agree l c → Agree l (in0Gone c)
 in0-gone l c i =
-    agree-epirq l (setEp0 (ep0Gone (c .ep0)) c) (raised in0bavirq (c .registers .epirq)) (leaves-raised in0bavirq (c .registers .epirq) refl refl refl refl) i
+    agree-epirq l (setEp0 (ep0Gone (c .ep0)) c) (raised in0bavirq (c .registers .epirq))
+    (leaves-raised in0bavirq (c .registers .epirq) refl refl refl refl) i
 
 in3-gone : (l : Ledger) (c : Chip) → Agree l c → Agree l (in3Gone c)
 in3-gone l c i =
@@ -115,8 +118,10 @@ in2-sent l c false some i = i
 in2-keeps : (l : Ledger) (c : Chip) (arrives : Bool) → Agree l c → Sent l arrives (in2 c arrives)
 in2-keeps l c arrives i =
     let none-noted : cond arrives l l ≡ l = cond-same arrives l in
-    first-elim (λ (v : InVerdict). Sent l arrives (inOutcome ep2inak (sent (c .ep2 .toggle) (oldestPacket 2 (c .ep2 .ring))) (in2Gone c) c arrives v))
-    ((has (c .registers .clrtogs) ep2disab, Silent) ∷ (has (c .registers .epstalls) stlep2in, Stall) ∷ (not (eqb (c .ep2 .ring .waiting) 0), Send) ∷ []) Nak
+    first-elim (λ (v : InVerdict). Sent l arrives
+    (inOutcome ep2inak (sent (c .ep2 .toggle) (oldestPacket 2 (c .ep2 .ring))) (in2Gone c) c arrives v))
+    ((has (c .registers .clrtogs) ep2disab, Silent) ∷ (has (c .registers .epstalls) stlep2in, Stall) ∷
+    (not (eqb (c .ep2 .ring .waiting) 0), Send) ∷ []) Nak
     ((λ _. rw none-noted i) ⨾ (λ _. rw none-noted i)
     ⨾ (λ waits.
     let n : c .ep2 .ring .waiting ≡ 0 → ⊥ = eqb-false (c .ep2 .ring .waiting) 0 (not-true (eqb (c .ep2 .ring .waiting) 0) waits) in
@@ -135,7 +140,8 @@ keeps-in n l c e vs _ _ _ i =
     let silent : Noted l e vs (outcome c silence) = rw (cond-same (eqb (e .endpoint) 2 && arrives) l) i in
     cond-elim (Noted l e vs) (heard c false (e .address))
     (λ _. first-each (Noted l e vs)
-    ((eqb (e .endpoint) 0, in0 c arrives) ∷ (eqb (e .endpoint) 2, in2 c arrives) ∷ (eqb (e .endpoint) 3, in3 c arrives) ∷ []) (outcome c silence)
+    ((eqb (e .endpoint) 0, in0 c arrives) ∷ (eqb (e .endpoint) 2, in2 c arrives) ∷ (eqb (e .endpoint) 3, in3 c arrives) ∷ [])
+    (outcome c silence)
     ((λ zero.
     let other : eqb (e .endpoint) 2 ≡ false = ap (λ (n : ℕ). eqb n 2) (eqb-true (e .endpoint) 0 zero) in
     rw other (in-keeps l _ _ (in0Gone c) c arrives i (in0-gone l c i) (in0Verdict c)))

@@ -23,7 +23,8 @@ pub record Leaves (x y : ℕ) : Type 0 where
   pub unused : has y (unusedOf 11) ≡ has x (unusedOf 11)
 
 -- R11 is another number, without unused bits
-pub clean-epirq : (c : Chip) (y : ℕ) → has y (unusedOf 11) ≡ has (c .registers .epirq) (unusedOf 11) → Clean (bytesOf (c .registers)) unusedRegisters
+pub clean-epirq : (c : Chip) (y : ℕ) → has y (unusedOf 11) ≡ has (c .registers .epirq) (unusedOf 11) → Clean
+    (bytesOf (c .registers)) unusedRegisters
     → Clean (bytesOf (setEpirq y c .registers)) unusedRegisters
 clean-epirq c y e h = clean-set (bytesOf (c .registers)) unusedRegisters 2 y h (e ∙ h 2)
 
@@ -62,7 +63,13 @@ leaves-cleared b x = record {
 -- a bit apart from them becomes 1; the last four arguments are refl at a numeral
 pub leaves-raised : (m x : ℕ) → has m in2bavirq ≡ false → has m out1davirq ≡ false → has m in3bavirq ≡ false → has m (unusedOf 11) ≡ false
     → Leaves x (raised m x)
-leaves-raised m x p q r s = record { in2 = still in2bavirq p; out1 = still out1davirq q; in3 = still in3bavirq r; unused = still (unusedOf 11) s }
+leaves-raised m x p q r s = record {
+  in2 = still in2bavirq p;
+  out1 = still out1davirq q;
+  in3 = still in3bavirq r;
+  unused = still
+      (unusedOf 11) s;
+}
   where
     still : (k : ℕ) → has m k ≡ false → has (raised m x) k ≡ has x k
     still k n = has-or x m k ∙ ap (λ (t : Bool). t || has x k) n
@@ -71,5 +78,6 @@ leaves-raised m x p q r s = record { in2 = still in2bavirq p; out1 = still out1d
 pub leaves-setup : (x : ℕ) → Leaves x (masked (othersThan out0davirq) (sudavirq + in0bavirq) x)
 leaves-setup x = record { in2 = still in2bavirq; out1 = still out1davirq; in3 = still in3bavirq; unused = still (unusedOf 11) }
   where
-    still : (p : ℕ) → has (masked (othersThan out0davirq) (sudavirq + in0bavirq) x) p ≡ (has (sudavirq + in0bavirq) p || has x (bitAnd (othersThan out0davirq) p))
+    still : (p : ℕ) → has (masked (othersThan out0davirq) (sudavirq + in0bavirq) x) p ≡
+        (has (sudavirq + in0bavirq) p || has x (bitAnd (othersThan out0davirq) p))
     still p = has-masked (othersThan out0davirq) (sudavirq + in0bavirq) x p

@@ -26,11 +26,15 @@ use Rattle.rules.specs.Write.{WriteRule, writeRules, ignored}
 use Rattle.rules.specs.Read.{ReadRule, fifoReads, readControl, readRule}
 use Rattle.rules.specs.Spi.{setAckstat}
 use Rattle.rules.specs.Event.{EventRule, eventRules, noEvent, max3420e}
-use Rattle.rules.specs.Ledger.{Ledger, LedgerWrite, LedgerEvent, blank, ledgerWrites, unnotedWrite, ledgerEvents, unnotedEvent, max3420eLedger}
+use Rattle.rules.specs.Ledger.{Ledger, LedgerWrite, LedgerEvent, blank, ledgerWrites, unnotedWrite, ledgerEvents, unnotedEvent}
+use Rattle.rules.specs.Ledger.{max3420eLedger}
 use Rattle.rules.proofs.Agree.{Agree, agree-sound, with-unused}
-use Rattle.rules.proofs.Writes.{keeps-ignored, keeps-ep0fifo, keeps-ep2fifo, keeps-ep3fifo, keeps-ep0bc, keeps-ep2bc, keeps-ep3bc, keeps-epstalls, keeps-clrtogs, keeps-epirq, keeps-epien, keeps-usbirq, keeps-usbien, keeps-usbctl, keeps-cpuctl, keeps-pinctl, keeps-iopins}
+use Rattle.rules.proofs.Writes.{keeps-ignored, keeps-ep0fifo, keeps-ep2fifo, keeps-ep3fifo, keeps-ep0bc, keeps-ep2bc}
+use Rattle.rules.proofs.Writes.{keeps-ep3bc, keeps-epstalls, keeps-clrtogs, keeps-epirq, keeps-epien, keeps-usbirq}
+use Rattle.rules.proofs.Writes.{keeps-usbien, keeps-usbctl, keeps-cpuctl, keeps-pinctl, keeps-iopins}
 use Rattle.rules.proofs.Reading as reading
-use Rattle.rules.proofs.Events.{keeps-no-event, keeps-power-on, keeps-stable, keeps-vbus-on, keeps-vbus-off, keeps-pins, keeps-reset-start, keeps-raises, keeps-setup}
+use Rattle.rules.proofs.Events.{keeps-no-event, keeps-power-on, keeps-stable, keeps-vbus-on, keeps-vbus-off, keeps-pins}
+use Rattle.rules.proofs.Events.{keeps-reset-start, keeps-raises, keeps-setup}
 use Rattle.rules.proofs.Outs.{keeps-out}
 use Rattle.rules.proofs.Ins.{keeps-in}
 
@@ -58,7 +62,8 @@ write-rows =
 -- past the table nothing is written and nothing noted
 past-writes : (n : ℕ) → length writeRules ≤ n → WriteRow n
 past-writes n h =
-    subst (λ (f : WriteRule). KeepsWrite Agree (λ (c : Chip) (b : ℕ). false) f (max3420eLedger .write n)) (sym (List·getD-eq-default writeRules ignored h))
+    subst (λ (f : WriteRule). KeepsWrite Agree (λ (c : Chip) (b : ℕ). false) f (max3420eLedger .write n))
+    (sym (List·getD-eq-default writeRules ignored h))
     (subst (λ (k : LedgerWrite). KeepsWrite Agree (λ (c : Chip) (b : ℕ). false) ignored k)
     (sym (List·getD-eq-default ledgerWrites unnotedWrite {n = n} (omega arith))) keeps-ignored)
 
@@ -84,14 +89,16 @@ event-rows =
 
 past-events : (n : ℕ) → length eventRules ≤ n → EventRow n
 past-events n h =
-    subst (λ (r : EventRule). KeepsEvent Agree n (λ (c : Chip) (e : Event). false) r (max3420eLedger .event n)) (sym (List·getD-eq-default eventRules noEvent h))
+    subst (λ (r : EventRule). KeepsEvent Agree n (λ (c : Chip) (e : Event). false) r (max3420eLedger .event n))
+    (sym (List·getD-eq-default eventRules noEvent h))
     (subst (λ (k : LedgerEvent). KeepsEvent Agree n (λ (c : Chip) (e : Event). false) noEvent k)
     (sym (List·getD-eq-default ledgerEvents unnotedEvent h)) (keeps-no-event n))
 
 -- the command byte may set ACKSTAT
 ackstat-keeps : (l : Ledger) (c : Chip) → Agree l c → Agree l (setAckstat c)
 ackstat-keeps l c i =
-    with-unused i (clean-set (bytesOf (c .registers)) unusedRegisters 0 _ (i .unused) (has-or (c .registers .epstalls) ackstat (unusedOf 9) ∙ i .unused 0))
+    with-unused i (clean-set (bytesOf (c .registers)) unusedRegisters 0 _ (i .unused)
+    (has-or (c .registers .epstalls) ackstat (unusedOf 9) ∙ i .unused 0))
 
 starts : Agree blank powerOnChip
 unfolding powerOnChip
@@ -99,7 +106,16 @@ starts =
     let fits = fits-drained emptyRing (emptyRing .bytes) (omega arith) in
     let clauses = sound-clauses powerOnChip power-on-sound in
     record {
-      sends = record { fits = fits; queued = refl; bytes = refl; turn = refl; place = refl; writepos = omega arith; count = omega arith; irq = refl };
+      sends = record {
+        fits = fits;
+        queued = refl;
+        bytes = refl;
+        turn = refl;
+        place = refl;
+        writepos = omega arith;
+        count = omega arith;
+        irq = refl;
+      };
       receives = record { fits = fits; queued = refl; toggled = refl; readpos = omega arith; irq = refl };
       connection = refl;
       ep0 = clauses .ep0;

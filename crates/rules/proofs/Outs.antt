@@ -37,14 +37,16 @@ Noted l e vs o = Agree (noteOut l e vs (o .gives)) (o .state)
 
 -- ---- endpoint 0
 
-out0-keeps : (l : Ledger) (c : Chip) (vs : List ℕ) → length vs ≤ 64 → Agree l c → (v : OutVerdict) → Agree l (outOutcome c (out0Taken c vs) v .state)
+out0-keeps : (l : Ledger) (c : Chip) (vs : List ℕ) → length vs ≤ 64 → Agree l c → (v : OutVerdict) → Agree l
+    (outOutcome c (out0Taken c vs) v .state)
 out0-keeps l c vs short i Silent = i
 out0-keeps l c vs short i Stall = i
 out0-keeps l c vs short i Nak = i
 out0-keeps l c vs short i Drop = i
 out0-keeps l c vs short i Status = i
 out0-keeps l c vs short i Store =
-    agree-epirq l (setEp0 (ep0Filled (c .ep0) vs) c) (raised out0davirq (c .registers .epirq)) (leaves-raised out0davirq (c .registers .epirq) refl refl refl refl)
+    agree-epirq l (setEp0 (ep0Filled (c .ep0) vs) c) (raised out0davirq (c .registers .epirq))
+    (leaves-raised out0davirq (c .registers .epirq) refl refl refl refl)
     (with-ep0 i (record { count = short; readpos = omega arith; writepos = i .ep0 .writepos; setuppos = i .ep0 .setuppos }))
 
 -- ---- endpoint 1
@@ -96,7 +98,8 @@ out1-keeps l c e vs one short i =
 pub keeps-out : Kept 11 outEvent noteOut
 keeps-out l c e vs code short _ i =
     cond-elim (Noted l e vs) (heard c (e .damaged) (e .address))
-    (λ _. first-each (Noted l e vs) ((eqb (e .endpoint) 0, out0 c (e .data1) vs) ∷ (eqb (e .endpoint) 1, out1 c (e .data1) vs) ∷ []) (outcome c silence)
+    (λ _. first-each (Noted l e vs) ((eqb (e .endpoint) 0, out0 c (e .data1) vs) ∷ (eqb (e .endpoint) 1, out1 c (e .data1) vs) ∷ [])
+    (outcome c silence)
     ((λ zero.
     let other : eqb (e .endpoint) 1 ≡ false = ap (λ (n : ℕ). eqb n 1) (eqb-true (e .endpoint) 0 zero) in
     rw other (out0-keeps l c vs (short refl) i (out0Verdict c (e .data1) (length vs))))

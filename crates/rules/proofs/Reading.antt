@@ -25,7 +25,13 @@ keeps-ep0fifo l c i =
     cond-elim (After l) (ltb (c .ep0 .readpos) (c .ep0 .count))
     (λ left.
     let below : c .ep0 .readpos < c .ep0 .count = ltb-true (c .ep0 .readpos) (c .ep0 .count) left in
-    with-ep0 i (record { count = i .ep0 .count; readpos = omega (arith, i .ep0 .count); writepos = i .ep0 .writepos; setuppos = i .ep0 .setuppos }))
+    with-ep0 i (record {
+      count = i .ep0 .count;
+      readpos = omega (arith, i .ep0 .count);
+      writepos = i .ep0 .writepos;
+      setuppos =
+          i .ep0 .setuppos;
+    }))
     (λ _. i)
 
 pub keeps-ep1outfifo : Kept readEp1outfifo

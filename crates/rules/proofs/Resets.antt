@@ -41,7 +41,8 @@ module _ (k : Reset) (l : Ledger) (c : Chip) (i : Agree l c) where
 
   sends : SendsOf (ledgerAfter k l) (chipAfter k c)
   sends =
-      subst (λ (r : Ring). Sends (ledgerAfter k l .sender) r 0 (chipAfter k c .ep2 .count) (has (chipAfter k c .registers .epirq) in2bavirq))
+      subst (λ (r : Ring). Sends (ledgerAfter k l .sender) r 0 (chipAfter k c .ep2 .count)
+      (has (chipAfter k c .registers .epirq) in2bavirq))
       (ring-after k (c .ep2 .ring))
       (record {
         fits = fits-after k (c .ep2 .ring) (i .sends .fits);

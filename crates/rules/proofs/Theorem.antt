@@ -31,8 +31,11 @@ use Rattle.rules.proofs.Lawful.{Lawful, max3420e-lawful}
 
 -- a bit of a register, as it reads, tells an order
 bit-tells : (x k n m : ℕ) → has x (2 ^ k) ≡ ltb n m → (bit x k ≡ 1) ↔ (n < m)
-bit-tells x k n m h =
-    (λ one. ltb-true n m (sym h ∙ has-bit x k ∙ eq-eqb (bit x k) 1 one), λ less. eqb-true (bit x k) 1 (sym (has-bit x k) ∙ h ∙ lt-ltb n m less))
+bit-tells x k n m h = (
+  λ one. ltb-true n m (sym h ∙ has-bit x k ∙ eq-eqb (bit x k) 1 one),
+  λ less. eqb-true (bit x k) 1
+      (sym (has-bit x k) ∙ h ∙ lt-ltb n m less),
+)
 
 agree-demand : (l : Ledger) (c : Chip) → Agree l c → Demand3 l c
 agree-demand l c i = record {

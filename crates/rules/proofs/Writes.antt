@@ -18,17 +18,24 @@ use Rattle.ring.specs.declared.Ring.{Ring}
 use Rattle.ring.specs.Ring.{queue, full, nextBuffer, packet, oldestPacket, armNext, releaseOldest}
 use Rattle.ring.proofs.Laws.{release-none, queue-none, fits-store, queue-store, fits-arm, queue-arm, next-arm, fits-release, queue-release}
 use Rattle.chip.specs.declared.Chip.{Chip}
-use Rattle.chip.specs.Mask.{othersThan, countBits, epstallsBits, disableBits, ctgep1out, in0bavirq, in2bavirq, in3bavirq, out1davirq, clearedEpirqs, epienBits, usbctlBits, chipres, ie, unusedOf}
+use Rattle.chip.specs.Mask.{othersThan, countBits, epstallsBits, disableBits, ctgep1out, in0bavirq, in2bavirq, in3bavirq, out1davirq}
+use Rattle.chip.specs.Mask.{clearedEpirqs, epienBits, usbctlBits, chipres, ie, unusedOf}
 use Rattle.chip.specs.Record.{bytesOf}
 use Rattle.chip.specs.Set.{setEp0, setEp2, setEp3, setEpirq, setUsbctl}
 use Rattle.chip.specs.Sound.{unusedRegisters}
 use Rattle.chip.proofs.Sound.{Clean, clean-set, clean-set-any}
 use Rattle.reset.specs.declared.Reset.the-variants.{ChipReset}
 use Rattle.model.proofs.Keeps.{KeepsWrite}
-use Rattle.rules.specs.Write.{WriteRule, lowerEpirq, ep0Busy, ep0Stored, ep0Armed, ep2Stored, ep2Armed, in2bavCleared, ep3Stored, ep3Armed, ignored, writeEp0fifo, writeEp2infifo, writeEp3infifo, writeEp0bc, writeEp2inbc, writeEp3inbc, writeEpstalls, writeClrtogs, release, writeEpirq, writeEpien, writeUsbirq, writeUsbien, resetOnRise, writeUsbctl, writeCpuctl, writePinctl, writeIopins}
+use Rattle.rules.specs.Write.{WriteRule, lowerEpirq, ep0Busy, ep0Stored, ep0Armed, ep2Stored, ep2Armed, in2bavCleared}
+use Rattle.rules.specs.Write.{ep3Stored, ep3Armed, ignored, writeEp0fifo, writeEp2infifo, writeEp3infifo, writeEp0bc}
+use Rattle.rules.specs.Write.{writeEp2inbc, writeEp3inbc, writeEpstalls, writeClrtogs, release, writeEpirq, writeEpien}
+use Rattle.rules.specs.Write.{writeUsbirq, writeUsbien, resetOnRise, writeUsbctl, writeCpuctl, writePinctl, writeIopins}
 use Rattle.rules.specs.Seen.{Connection, connectionOf}
-use Rattle.rules.specs.Ledger.{Ledger, LedgerWrite, unnotedWrite, waitingAt2, senderStored, senderArmed, noteEp2infifo, noteEp2inbc, noteClrtogs, oldestKept, receiverReleased, noteEpirq, noteRise, noteUsbctl, notedUsbctl, setSender, setReceiver}
-use Rattle.rules.proofs.Agree.{Sends, SendsOf, Agree, waiting-is, with-sends, with-receives, with-connection, with-ep0, with-ep3, with-unused}
+use Rattle.rules.specs.Ledger.{Ledger, LedgerWrite, unnotedWrite, waitingAt2, senderStored, senderArmed, noteEp2infifo}
+use Rattle.rules.specs.Ledger.{noteEp2inbc, noteClrtogs, oldestKept, receiverReleased, noteEpirq, noteRise, noteUsbctl}
+use Rattle.rules.specs.Ledger.{notedUsbctl, setSender, setReceiver}
+use Rattle.rules.proofs.Agree.{Sends, SendsOf, Agree, waiting-is, with-sends, with-receives, with-connection, with-ep0}
+use Rattle.rules.proofs.Agree.{with-ep3, with-unused}
 use Rattle.rules.proofs.Irqs.{clean-epirq, agree-epirq, leaves-in0, leaves-cleared}
 use Rattle.rules.proofs.Resets.{agree-reset}
 
@@ -43,11 +50,13 @@ keeps-ignored l c b _ i = i
 
 pub keeps-epstalls : Kept writeEpstalls unnotedWrite
 keeps-epstalls l c b _ i =
-    with-unused i (clean-set (bytesOf (c .registers)) unusedRegisters 0 (bitAnd b epstallsBits) (i .unused) (has-and-none b epstallsBits (unusedOf 9) refl))
+    with-unused i (clean-set (bytesOf (c .registers)) unusedRegisters 0 (bitAnd b epstallsBits) (i .unused)
+    (has-and-none b epstallsBits (unusedOf 9) refl))
 
 pub keeps-epien : Kept writeEpien unnotedWrite
 keeps-epien l c b _ i =
-    with-unused i (clean-set (bytesOf (c .registers)) unusedRegisters 3 (bitAnd b epienBits) (i .unused) (has-and-none b epienBits (unusedOf 12) refl))
+    with-unused i (clean-set (bytesOf (c .registers)) unusedRegisters 3 (bitAnd b epienBits) (i .unused)
+    (has-and-none b epienBits (unusedOf 12) refl))
 
 pub keeps-usbirq : Kept writeUsbirq unnotedWrite
 keeps-usbirq l c b _ i = with-unused i (clean-set-any (bytesOf (c .registers)) unusedRegisters 4 _ (i .unused) refl)
@@ -76,7 +85,8 @@ keeps-clrtogs l c b _ i =
       readpos = i .receives .readpos;
       irq = i .receives .irq;
     }))
-    (clean-set (bytesOf (c .registers)) unusedRegisters 1 (bitAnd b disableBits) (i .unused) (has-and-none b disableBits (unusedOf 10) refl))
+    (clean-set (bytesOf (c .registers)) unusedRegisters 1 (bitAnd b disableBits) (i .unused)
+    (has-and-none b disableBits (unusedOf 10) refl))
 
 -- ---- endpoint 0
 
@@ -133,7 +143,8 @@ ep2-stores l c b below room i =
     let r : Ring = c .ep2 .ring in
     with-sends i (record {
       fits = fits-store 2 r (s .fits) (c .ep2 .writepos) b;
-      queued = s .queued ∙ ap (λ (q : List (List ℕ)). l .sender .acknowledged ++ q) (sym (queue-store 2 r (s .fits) (c .ep2 .writepos) b below room));
+      queued = s .queued ∙ ap (λ (q : List (List ℕ)). l .sender .acknowledged ++ q)
+          (sym (queue-store 2 r (s .fits) (c .ep2 .writepos) b below room));
       bytes = rw (s .bytes, s .turn, s .place);
       turn = s .turn;
       place = ap (λ (n : ℕ). n + 1) (s .place);
@@ -150,7 +161,8 @@ pub keeps-ep2fifo : Kept writeEp2infifo noteEp2infifo
 keeps-ep2fifo l c b _ i =
     let same : leb 64 (l .sender .writepos) ∷ leb 2 (waitingAt2 (l .sender)) ∷ [] ≡ leb 64 (c .ep2 .writepos) ∷ full 2 (c .ep2 .ring) ∷ [] =
     rw (i .sends .place, same-full l c i) in
-    unless-elim₂ Agree (leb 64 (l .sender .writepos) ∷ leb 2 (waitingAt2 (l .sender)) ∷ []) (leb 64 (c .ep2 .writepos) ∷ full 2 (c .ep2 .ring) ∷ []) same i
+    unless-elim₂ Agree (leb 64 (l .sender .writepos) ∷ leb 2 (waitingAt2 (l .sender)) ∷ [])
+    (leb 64 (c .ep2 .writepos) ∷ full 2 (c .ep2 .ring) ∷ []) same i
     (λ free. ep2-stores l c b (leb-false 64 (c .ep2 .writepos) (free 0)) (leb-false 2 (c .ep2 .ring .waiting) (free 1)) i)
 
 -- the packet waits; bav is IN2BAVIRQ afterwards
@@ -189,7 +201,8 @@ agree-arms l c n small room i =
       ep3 = rw (has-and x m in3bavirq) (i .ep3);
       unused = clean-epirq c (lowered in2bavirq x) (has-and x m (unusedOf 11)) (i .unused);
     })
-    (λ one. with-sends i (ep2-arms l c n _ small room (i .sends .irq ∙ lt-ltb w 2 room ∙ sym (lt-ltb (w + 1) 2 (leb-false 2 (w + 1) one))) (i .sends)))
+    (λ one. with-sends i (ep2-arms l c n _ small room (i .sends .irq ∙ lt-ltb w 2 room ∙ sym (lt-ltb (w + 1) 2 (leb-false 2 (w + 1) one)))
+    (i .sends)))
 
 pub keeps-ep2bc : Kept writeEp2inbc noteEp2inbc
 keeps-ep2bc l c n _ i =
@@ -202,7 +215,8 @@ keeps-ep2bc l c n _ i =
 -- the oldest of those not released moves to the released
 oldest-moves : (s r q p rest : List (List ℕ)) → s ≡ r ++ q → q ≡ p ++ rest → take 1 q ≡ p → s ≡ r ++ take 1 (drop (length r) s) ++ rest
 oldest-moves s r q p rest e f g =
-    let head : take 1 (drop (length r) s) ≡ p = ap (λ (l : List (List ℕ)). take 1 (drop (length r) l)) e ∙ ap (take 1) (drop-append-seam r q) ∙ g in
+    let head : take 1 (drop (length r) s) ≡ p = ap (λ (l : List (List ℕ)). take 1 (drop (length r) l)) e ∙ ap (take 1)
+    (drop-append-seam r q) ∙ g in
     e ∙ ap (λ (l : List (List ℕ)). r ++ l) f ∙ sym (append-assoc r p rest) ∙ ap (λ (l : List (List ℕ)). r ++ l ++ rest) (sym head)
 
 released : (l : Ledger) (r : Ring) → l .receiver .stored ≡ l .receiver .released ++ queue 2 r
@@ -210,11 +224,13 @@ released : (l : Ledger) (r : Ring) → l .receiver .stored ≡ l .receiver .rele
 released l r e = elim (decLt 0 (r .waiting)) [
   | yes h ↦
       let q = queue-release 2 r h in
-      oldest-moves (l .receiver .stored) (l .receiver .released) (queue 2 r) (oldestPacket 2 r ∷ []) (queue 2 (releaseOldest 2 r)) e q (ap (take 1) q)
+      oldest-moves (l .receiver .stored) (l .receiver .released) (queue 2 r) (oldestPacket 2 r ∷ []) (queue 2 (releaseOldest 2 r)) e q
+      (ap (take 1) q)
   | no g ↦
       let none : r .waiting ≡ 0 = omega arith in
       let same : releaseOldest 2 r ≡ r = release-none 2 r none in
-      oldest-moves (l .receiver .stored) (l .receiver .released) (queue 2 r) [] (queue 2 (releaseOldest 2 r)) e (ap (queue 2) (sym same)) (ap (take 1) (queue-none 2 r none))
+      oldest-moves (l .receiver .stored) (l .receiver .released) (queue 2 r) [] (queue 2 (releaseOldest 2 r)) e (ap (queue 2) (sym same))
+      (ap (take 1) (queue-none 2 r none))
 ]
 
 agree-release : (l : Ledger) (c : Chip) → Agree l c → Agree (setReceiver (receiverReleased (l .receiver)) l) (release c)

@@ -129,7 +129,8 @@ case3 =
 abbrev pub case4 : List Step
 case4 =
     case3
-    ++ («in» 2 false (sent false (0x01 ∷ [])) ∷ r11 0x11 ∷ «in» 2 true (sent false (0x01 ∷ [])) ∷ r11 0x19 ∷ «in» 2 true (sent true (0x02 ∷ [])) ∷ [])
+    ++ («in» 2 false (sent false (0x01 ∷ [])) ∷ r11 0x11 ∷ «in» 2 true (sent false (0x01 ∷ [])) ∷ r11 0x19 ∷ «in» 2 true
+    (sent true (0x02 ∷ [])) ∷ [])
 
 -- a count of 41 changes nothing; 40 arms 64 bytes, 00 an empty packet
 abbrev pub case5 : List Step

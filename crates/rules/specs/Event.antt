@@ -91,7 +91,8 @@ abbrev pub inEvent : EventRule
 inEvent c e vs =
     cond (heard c false (e .address))
     (firstOf
-    ((eqb (e .endpoint) 0, in0 c (e .acknowledged)) ∷ (eqb (e .endpoint) 2, in2 c (e .acknowledged)) ∷ (eqb (e .endpoint) 3, in3 c (e .acknowledged)) ∷ [])
+    ((eqb (e .endpoint) 0, in0 c (e .acknowledged)) ∷ (eqb (e .endpoint) 2, in2 c (e .acknowledged)) ∷
+    (eqb (e .endpoint) 3, in3 c (e .acknowledged)) ∷ [])
     (outcome c silence))
     (outcome c silence)
 

@@ -11,7 +11,8 @@ use Rattle.chip.specs.declared.PinReply.the-variants.{Level}
 use Rattle.model.specs.declared.Event.{Event}
 use Rattle.model.specs.Reply.{Reply, transferred, done, silence, ack, nak, stall, sent}
 use Rattle.model.specs.Call.{Call, transfer, event, refused, answered}
-use Rattle.rules.specs.Bench.{Step, called, still, asked, spi, signals, on, out, «in», r11, setup, plain, noChange, pinned, writes, reads}
+use Rattle.rules.specs.Bench.{Step, called, still, asked, spi, signals, on, out, «in», r11, setup, plain, noChange, pinned}
+use Rattle.rules.specs.Bench.{writes, reads}
 
 -- a transaction's event at an address and endpoint, undamaged
 abbrev pub transaction : ℕ → ℕ → ℕ → Event
@@ -33,28 +34,27 @@ burst command reply = spi (command ∷ map (λ b. 0) reply) (0 ∷ reply)
 abbrev pub readTransfer : List Step
 readTransfer =
     on
-    ++ (setup (0x80 ∷ 0x06 ∷ 0x00 ∷ 0x01 ∷ 0 ∷ 0 ∷ 0x40 ∷ 0 ∷ [])
-    ∷ burst 0x20 (0x80 ∷ 0x06 ∷ 0x00 ∷ 0x01 ∷ 0 ∷ 0 ∷ 0x40 ∷ 0 ∷ 0 ∷ [])
-    ∷ r11 0x39 ∷ writes 0x5a 0x20 ∷ r11 0x19
-    ∷ spi (0x02 ∷ 0x12 ∷ 0x01 ∷ []) (0 ∷ 0 ∷ 0 ∷ []) ∷ writes 0x2a 0x02 ∷ r11 0x18
-    ∷ noChange (writes 0x02 0x77) ∷ noChange (writes 0x2a 0x01)
-    ∷ «in» 0 false (sent true (0x12 ∷ 0x01 ∷ [])) ∷ «in» 0 true (sent true (0x12 ∷ 0x01 ∷ [])) ∷ r11 0x19
-    ∷ reads 0x88 0x00 ∷ «in» 0 true nak ∷ reads 0x88 0x20
-    ∷ writes 0x02 0x34 ∷ writes 0x2a 0x81 ∷ reads 0x28 0x01 ∷ «in» 0 true (sent false (0x34 ∷ []))
-    ∷ noChange (writes 0x2a 0x41) ∷ noChange (writes 0x2a 0xc1)
-    ∷ out 0 true [] nak ∷ spi (0x91 ∷ []) (0 ∷ []) ∷ out 0 true [] ack ∷ out 0 false [] ack ∷ out 0 true (0x01 ∷ []) stall ∷ [])
+    ++ (setup (0x80 ∷ 0x06 ∷ 0x00 ∷ 0x01 ∷ 0 ∷ 0 ∷ 0x40 ∷ 0 ∷ []) ∷ burst 0x20 (0x80 ∷ 0x06 ∷ 0x00 ∷ 0x01 ∷ 0 ∷ 0 ∷ 0x40 ∷ 0 ∷ 0 ∷ [])
+    ∷ r11 0x39 ∷ writes 0x5a 0x20 ∷ r11 0x19 ∷ spi (0x02 ∷ 0x12 ∷ 0x01 ∷ []) (0 ∷ 0 ∷ 0 ∷ []) ∷ writes 0x2a 0x02 ∷ r11 0x18
+    ∷ noChange (writes 0x02 0x77) ∷ noChange (writes 0x2a 0x01) ∷ «in» 0 false (sent true (0x12 ∷ 0x01 ∷ []))
+    ∷ «in» 0 true (sent true (0x12 ∷ 0x01 ∷ [])) ∷ r11 0x19 ∷ reads 0x88 0x00 ∷ «in» 0 true nak ∷ reads 0x88 0x20 ∷ writes 0x02 0x34
+    ∷ writes 0x2a 0x81 ∷ reads 0x28 0x01 ∷ «in» 0 true (sent false (0x34 ∷ [])) ∷ writes 0x2a 0x01
+    ∷ «in» 0 true (sent true (0x34 ∷ [])) ∷ noChange (writes 0x2a 0x41) ∷ noChange (writes 0x2a 0xc1) ∷ out 0 true [] nak
+    ∷ spi (0x91 ∷ []) (0 ∷ []) ∷ out 0 true [] ack ∷ out 0 false [] ack ∷ out 0 true (0x01 ∷ []) stall ∷ [])
 
 -- a control transfer that writes: the data waits in R0, a second packet has no room, a repeat is dropped; the write position stays; then
 -- a STALL of all three kinds, which the next SETUP ends
 abbrev pub writeTransfer : List Step
 writeTransfer =
     on
-    ++ (setup (0x21 ∷ 0x09 ∷ 0 ∷ 0 ∷ 0 ∷ 0 ∷ 0x02 ∷ 0 ∷ []) ∷ writes 0x02 0x55 ∷ out 0 true (0xaa ∷ 0xbb ∷ []) ack ∷ r11 0x3b ∷ reads 0x28 0x02
-    ∷ out 0 false (0xcc ∷ []) nak ∷ noChange (writes 0x02 0x66) ∷ noChange (writes 0x2a 0x01) ∷ burst 0x00 (0xaa ∷ 0xbb ∷ 0 ∷ []) ∷ writes 0x5a 0x02 ∷ r11 0x39
-    ∷ out 0 true (0xaa ∷ 0xbb ∷ []) ack ∷ r11 0x39 ∷ writes 0x02 0x77 ∷ out 0 false (0xcc ∷ 0xdd ∷ 0xee ∷ []) ack ∷ burst 0x00 (0xcc ∷ 0xdd ∷ 0xee ∷ 0 ∷ [])
-    ∷ writes 0x5a 0x02 ∷ writes 0x2a 0x03 ∷ out 0 true (0x01 ∷ []) nak ∷ burst 0x00 (0 ∷ []) ∷ «in» 0 true nak
-    ∷ writes 0x4a 0x7f ∷ «in» 0 true stall ∷ out 0 false [] stall ∷ out 1 false [] stall ∷ «in» 2 true stall ∷ «in» 3 true stall
-    ∷ setup (0x21 ∷ 0x09 ∷ 0 ∷ 0 ∷ 0 ∷ 0 ∷ 0x02 ∷ 0 ∷ []) ∷ reads 0x48 0x1c ∷ r11 0x39 ∷ out 0 true (0x01 ∷ []) ack ∷ [])
+    ++ (setup (0x21 ∷ 0x09 ∷ 0 ∷ 0 ∷ 0 ∷ 0 ∷ 0x02 ∷ 0 ∷ []) ∷ writes 0x02 0x55 ∷ out 0 true (0xaa ∷ 0xbb ∷ []) ack ∷ r11 0x3b
+    ∷ reads 0x28 0x02 ∷ out 0 false (0xcc ∷ []) nak ∷ noChange (writes 0x02 0x66) ∷ noChange (writes 0x2a 0x01)
+    ∷ burst 0x00 (0xaa ∷ 0xbb ∷ 0 ∷ []) ∷ writes 0x5a 0x02 ∷ r11 0x39 ∷ out 0 true (0xaa ∷ 0xbb ∷ []) ack ∷ r11 0x39 ∷ writes 0x02 0x77
+    ∷ out 0 false (0xcc ∷ 0xdd ∷ 0xee ∷ []) ack ∷ burst 0x00 (0xcc ∷ 0xdd ∷ 0xee ∷ 0 ∷ []) ∷ writes 0x5a 0x02
+    ∷ out 0 true (0x11 ∷ []) ack ∷ writes 0x5a 0x02 ∷ writes 0x2a 0x03 ∷ out 0 true (0x01 ∷ []) nak
+    ∷ burst 0x00 (0x11 ∷ 0xdd ∷ 0xee ∷ 0 ∷ []) ∷ «in» 0 true nak ∷ writes 0x4a 0x7f ∷ «in» 0 true stall ∷ out 0 false [] stall
+    ∷ out 1 false [] stall ∷ «in» 2 true stall ∷ «in» 3 true stall ∷ setup (0x21 ∷ 0x09 ∷ 0 ∷ 0 ∷ 0 ∷ 0 ∷ 0x02 ∷ 0 ∷ [])
+    ∷ reads 0x48 0x1c ∷ r11 0x39 ∷ out 0 true (0x01 ∷ []) ack ∷ [])
 
 -- which stage an IN or an OUT belongs to: by bit 7 of byte 0 and both bytes of wLength; STLEP0 bits do not touch the status stage, STLSTAT
 -- does not touch the data stage
@@ -70,8 +70,8 @@ stages =
     -- bit 7 and wLength 0: IN is status, OUT is STALL
     ∷ setup (0x80 ∷ 0 ∷ 0 ∷ 0 ∷ 0 ∷ 0 ∷ 0x00 ∷ 0x00 ∷ []) ∷ writes 0x4a 0x40 ∷ «in» 0 true (sent true []) ∷ out 0 true [] stall
     -- no bit 7 and wLength 2: IN is status, OUT is data
-    ∷ setup (0x7f ∷ 0 ∷ 0 ∷ 0 ∷ 0 ∷ 0 ∷ 0x02 ∷ 0x00 ∷ []) ∷ writes 0x4a 0x20 ∷ «in» 0 true stall ∷ out 0 true (0x01 ∷ []) ack ∷ writes 0x4a 0x43
-    ∷ «in» 0 true (sent true []) ∷ out 0 false (0x01 ∷ []) stall ∷ [])
+    ∷ setup (0x7f ∷ 0 ∷ 0 ∷ 0 ∷ 0 ∷ 0 ∷ 0x02 ∷ 0x00 ∷ []) ∷ writes 0x4a 0x20 ∷ «in» 0 true stall ∷ out 0 true (0x01 ∷ []) ack
+    ∷ writes 0x4a 0x43 ∷ «in» 0 true (sent true []) ∷ out 0 false (0x01 ∷ []) stall ∷ [])
 
 -- SET_ADDRESS: FNADDR changes when the status stage's ACK arrives; not by another request, nor with a wLength
 abbrev pub setAddress : List Step
@@ -80,9 +80,9 @@ setAddress =
     ++ (setup (0x00 ∷ 0x05 ∷ 0xaa ∷ 0 ∷ 0 ∷ 0 ∷ 0x01 ∷ 0 ∷ []) ∷ spi (0x91 ∷ []) (0 ∷ []) ∷ noChange («in» 0 true (sent true []))
     ∷ setup (0x00 ∷ 0x09 ∷ 0xaa ∷ 0 ∷ 0 ∷ 0 ∷ 0 ∷ 0 ∷ []) ∷ spi (0x91 ∷ []) (0 ∷ []) ∷ noChange («in» 0 true (sent true []))
     ∷ setup (0x01 ∷ 0x05 ∷ 0xaa ∷ 0 ∷ 0 ∷ 0 ∷ 0 ∷ 0 ∷ []) ∷ spi (0x91 ∷ []) (0 ∷ []) ∷ noChange («in» 0 true (sent true []))
-    ∷ setup (0x00 ∷ 0x05 ∷ 0xaa ∷ 0 ∷ 0 ∷ 0 ∷ 0 ∷ 0 ∷ []) ∷ «in» 0 true nak ∷ spi (0x91 ∷ []) (0 ∷ []) ∷ noChange («in» 0 false (sent true [])) ∷ reads 0x98 0x00
-    ∷ «in» 0 true (sent true []) ∷ reads 0x98 0x2a ∷ noChange (answers (transaction 10 0 0) (replicate 8 0) silence)
-    ∷ answers (transaction 10 0x2a 0) (replicate 8 0) ack ∷ [])
+    ∷ setup (0x00 ∷ 0x05 ∷ 0xaa ∷ 0 ∷ 0 ∷ 0 ∷ 0 ∷ 0 ∷ []) ∷ «in» 0 true nak ∷ spi (0x91 ∷ []) (0 ∷ [])
+    ∷ noChange («in» 0 false (sent true [])) ∷ reads 0x98 0x00 ∷ «in» 0 true (sent true []) ∷ reads 0x98 0x2a
+    ∷ noChange (answers (transaction 10 0 0) (replicate 8 0) silence) ∷ answers (transaction 10 0x2a 0) (replicate 8 0) ack ∷ [])
 
 -- ---- endpoints 1, 2 and 3
 
@@ -92,45 +92,49 @@ released =
     on
     ++ (out 1 false (0x07 ∷ 0x08 ∷ []) ack ∷ out 1 true (0x09 ∷ []) ack ∷ reads 0x30 0x02 ∷ burst 0x08 (0x07 ∷ 0x08 ∷ 0 ∷ [])
     ∷ writes 0x5a 0x04 ∷ reads 0x30 0x01 ∷ burst 0x08 (0x09 ∷ 0 ∷ []) ∷ writes 0x5a 0x04 ∷ reads 0x30 0x00 ∷ reads 0x08 0x00
-    ∷ noChange (out 1 true (0x01 ∷ []) ack) ∷ reads 0x30 0x00 ∷ writes 0x52 0x04 ∷ out 1 false (0x02 ∷ 0x03 ∷ []) ack ∷ reads 0x30 0x02 ∷ [])
+    ∷ noChange (out 1 true (0x01 ∷ []) ack) ∷ reads 0x30 0x00 ∷ writes 0x52 0x04 ∷ out 1 false (0x02 ∷ 0x03 ∷ []) ack ∷ reads 0x30 0x02
+    ∷ [])
 
 -- each toggle is cleared by its own bit of R10, and by no other
 abbrev pub toggles : List Step
 toggles =
     on
-    ++ (writes 0x3a 0x00 ∷ «in» 2 true (sent false []) ∷ writes 0x42 0x00 ∷ «in» 3 true (sent false []) ∷ out 1 false [] ack ∷ writes 0x5a 0x04
-    ∷ writes 0x52 0x14 ∷ reads 0x50 0x00 ∷ writes 0x3a 0x00 ∷ «in» 2 false (sent true []) ∷ writes 0x42 0x00 ∷ «in» 3 false (sent false [])
-    ∷ out 1 false [] ack ∷ writes 0x52 0x08 ∷ «in» 2 false (sent false []) ∷ «in» 3 true (sent false []) ∷ writes 0x42 0x00 ∷ writes 0x52 0x0c
-    ∷ «in» 3 false (sent true []) ∷ out 1 false [] ack ∷ [])
+    ++ (writes 0x3a 0x00 ∷ «in» 2 true (sent false []) ∷ writes 0x42 0x00 ∷ «in» 3 true (sent false []) ∷ out 1 false [] ack
+    ∷ writes 0x5a 0x04 ∷ writes 0x52 0x14 ∷ reads 0x50 0x00 ∷ writes 0x3a 0x00 ∷ «in» 2 false (sent true []) ∷ writes 0x42 0x00
+    ∷ «in» 3 false (sent false []) ∷ out 1 false [] ack ∷ writes 0x52 0x08 ∷ «in» 2 false (sent false []) ∷ «in» 3 true (sent false [])
+    ∷ writes 0x42 0x00 ∷ writes 0x52 0x0c ∷ «in» 3 false (sent true []) ∷ out 1 false [] ack ∷ [])
 
 -- a disabled endpoint is silent, and its registers act all the same; transactions at endpoints that do not exist, or damaged
 abbrev pub silent : List Step
 silent =
     on
-    ++ (writes 0x52 0x20 ∷ out 1 false [] silence ∷ «in» 2 true nak ∷ «in» 3 true nak ∷ writes 0x52 0x40 ∷ out 1 false [] ack ∷ noChange («in» 2 true silence)
-    ∷ «in» 3 true nak ∷ writes 0x52 0x80 ∷ «in» 2 true nak ∷ noChange («in» 3 true silence) ∷ writes 0x3a 0x00 ∷ writes 0x42 0x00 ∷ writes 0x52 0x00
-    ∷ «in» 2 true (sent false []) ∷ «in» 3 true (sent false [])
-    ∷ noChange («in» 1 true silence) ∷ noChange (out 2 false [] silence) ∷ noChange (answers (transaction 10 0 1) (replicate 8 0) silence)
-    ∷ noChange (answers (transaction 11 1 0) [] silence) ∷ noChange (answers (transaction 12 1 2) [] silence)
+    ++ (writes 0x52 0x20 ∷ out 1 false [] silence ∷ «in» 2 true nak ∷ «in» 3 true nak ∷ writes 0x52 0x40 ∷ out 1 false [] ack
+    ∷ noChange («in» 2 true silence) ∷ «in» 3 true nak ∷ writes 0x52 0x80 ∷ «in» 2 true nak ∷ noChange («in» 3 true silence)
+    ∷ writes 0x3a 0x00 ∷ writes 0x42 0x00 ∷ writes 0x52 0x00 ∷ «in» 2 true (sent false []) ∷ «in» 3 true (sent false [])
+    ∷ noChange («in» 1 true silence) ∷ noChange (out 2 false [] silence)
+    ∷ noChange (answers (transaction 10 0 1) (replicate 8 0) silence) ∷ noChange (answers (transaction 11 1 0) [] silence)
+    ∷ noChange (answers (transaction 12 1 2) [] silence)
     ∷ noChange (answers (record { code = 10; pins = 0; address = 0; endpoint = 0; damaged = true; data1 = false; acknowledged = false }) (replicate 8 0) silence)
     ∷ noChange (answers (record { code = 11; pins = 0; address = 0; endpoint = 1; damaged = true; data1 = true; acknowledged = false }) [] silence)
-    ∷ answers (record { code = 12; pins = 0; address = 0; endpoint = 2; damaged = true; data1 = false; acknowledged = false }) [] nak ∷ [])
+    ∷ answers (record { code = 12; pins = 0; address = 0; endpoint = 2; damaged = true; data1 = false; acknowledged = false }) [] nak
+    ∷ [])
 
 -- STALL by each endpoint's own bit
 abbrev pub stalled : List Step
 stalled =
     on
     ++ (writes 0x4a 0x04 ∷ noChange (out 1 false [] stall) ∷ «in» 2 true nak ∷ «in» 3 true nak ∷ writes 0x4a 0x08 ∷ out 1 false [] ack
-    ∷ noChange («in» 2 true stall) ∷ «in» 3 true nak ∷ writes 0x4a 0x10 ∷ «in» 2 true nak ∷ noChange («in» 3 true stall) ∷ writes 0x4a 0x01
-    ∷ «in» 0 true stall ∷ out 0 true [] nak ∷ writes 0x4a 0x02 ∷ «in» 0 true nak ∷ out 0 true [] stall ∷ [])
+    ∷ noChange («in» 2 true stall) ∷ «in» 3 true nak ∷ writes 0x4a 0x10 ∷ «in» 2 true nak ∷ noChange («in» 3 true stall)
+    ∷ writes 0x4a 0x01 ∷ «in» 0 true stall ∷ out 0 true [] nak ∷ writes 0x4a 0x02 ∷ «in» 0 true nak ∷ out 0 true [] stall ∷ [])
 
 -- endpoint 3's buffer is the chip's while it is armed; its bytes and position stay when it is acknowledged
 abbrev pub single : List Step
 single =
     on
-    ++ (spi (0x1a ∷ 0x0a ∷ 0x0b ∷ []) (0 ∷ 0 ∷ 0 ∷ []) ∷ noChange (writes 0x42 0x41) ∷ writes 0x42 0x02 ∷ reads 0x40 0x02 ∷ noChange (writes 0x1a 0x0c)
-    ∷ noChange (writes 0x42 0x01) ∷ «in» 3 false (sent false (0x0a ∷ 0x0b ∷ [])) ∷ «in» 3 true (sent false (0x0a ∷ 0x0b ∷ [])) ∷ r11 0x19
-    ∷ writes 0x1a 0x0d ∷ writes 0x42 0x02 ∷ «in» 3 true (sent true (0x0d ∷ 0x0b ∷ [])) ∷ reads 0x10 0x00 ∷ reads 0x18 0x00 ∷ [])
+    ++ (spi (0x1a ∷ 0x0a ∷ 0x0b ∷ []) (0 ∷ 0 ∷ 0 ∷ []) ∷ noChange (writes 0x42 0x41) ∷ writes 0x42 0x02 ∷ reads 0x40 0x02
+    ∷ noChange (writes 0x1a 0x0c) ∷ noChange (writes 0x42 0x01) ∷ «in» 3 false (sent false (0x0a ∷ 0x0b ∷ []))
+    ∷ «in» 3 true (sent false (0x0a ∷ 0x0b ∷ [])) ∷ r11 0x19 ∷ writes 0x1a 0x0d ∷ writes 0x42 0x02
+    ∷ «in» 3 true (sent true (0x0d ∷ 0x0b ∷ [])) ∷ reads 0x10 0x00 ∷ reads 0x18 0x00 ∷ [])
 
 -- ---- resets
 
@@ -140,29 +144,32 @@ abbrev pub resetInBurst : List Step
 resetInBurst =
     on
     ++ (writes 0x4a 0x1c ∷ spi (0x7b ∷ 0x28 ∷ 0x05 ∷ []) (0 ∷ 0 ∷ 0 ∷ []) ∷ reads 0x48 0x00 ∷ reads 0x78 0x28 ∷ reads 0x80 0x01
-    ∷ noChange («in» 2 true silence) ∷ noChange (signals 2) ∷ writes 0x7a 0x08 ∷ noChange («in» 2 true silence) ∷ signals 2 ∷ «in» 2 true nak ∷ [])
+    ∷ noChange («in» 2 true silence) ∷ noChange (signals 2) ∷ writes 0x7a 0x08 ∷ noChange («in» 2 true silence) ∷ signals 2
+    ∷ «in» 2 true nak ∷ [])
 
 -- bytes written before a bus reset may be armed after it; a bus reset that is not seen does nothing
 abbrev pub armedAfterReset : List Step
 armedAfterReset =
     on
-    ++ (writes 0x12 0x5a ∷ writes 0x3a 0x01 ∷ signals 6 ∷ r11 0x19 ∷ reads 0x68 0x08 ∷ «in» 2 true nak ∷ writes 0x3a 0x01 ∷ «in» 2 true (sent false (0x5a ∷ []))
-    ∷ signals 7 ∷ reads 0x68 0x88 ∷ writes 0x7a 0x00 ∷ noChange (answers (plain 6) [] silence) ∷ noChange (answers (plain 7) [] silence) ∷ [])
+    ++ (writes 0x12 0x5a ∷ writes 0x3a 0x01 ∷ signals 6 ∷ r11 0x19 ∷ reads 0x68 0x08 ∷ «in» 2 true nak ∷ writes 0x3a 0x01
+    ∷ «in» 2 true (sent false (0x5a ∷ [])) ∷ signals 7 ∷ reads 0x68 0x88 ∷ writes 0x7a 0x00 ∷ noChange (answers (plain 6) [] silence)
+    ∷ noChange (answers (plain 7) [] silence) ∷ [])
 
 -- suspend and activity, seen and not seen; power-on forgets all
 abbrev pub signalled : List Step
 signalled =
     on
-    ++ (reads 0x68 0x01 ∷ signals 8 ∷ reads 0x68 0x11 ∷ signals 9 ∷ reads 0x68 0x15 ∷ writes 0x6a 0x05 ∷ reads 0x68 0x10 ∷ writes 0x7a 0x00
-    ∷ noChange (answers (plain 8) [] silence) ∷ noChange (answers (plain 9) [] silence) ∷ signals 1 ∷ reads 0x68 0x00 ∷ writes 0x7a 0x08
-    ∷ noChange («in» 3 true silence) ∷ [])
+    ++ (reads 0x68 0x01 ∷ signals 8 ∷ reads 0x68 0x11 ∷ signals 9 ∷ reads 0x68 0x15 ∷ writes 0x6a 0x05 ∷ reads 0x68 0x10
+    ∷ writes 0x7a 0x00 ∷ noChange (answers (plain 8) [] silence) ∷ noChange (answers (plain 9) [] silence) ∷ signals 1
+    ∷ reads 0x68 0x00 ∷ writes 0x7a 0x08 ∷ noChange («in» 3 true silence) ∷ [])
 
 -- VBUS: a change sets a bit of R13; with VBGATE=1 the bus is seen only while VBUS is on
 abbrev pub gated : List Step
 gated =
     on
-    ++ (noChange (signals 4) ∷ signals 3 ∷ reads 0x68 0x41 ∷ noChange (signals 3) ∷ writes 0x6a 0xff ∷ writes 0x7a 0x48 ∷ «in» 3 true nak ∷ signals 4
-    ∷ noChange («in» 3 true silence) ∷ reads 0x68 0x20 ∷ signals 3 ∷ «in» 3 true nak ∷ reads 0x68 0x60 ∷ [])
+    ++ (noChange (signals 4) ∷ signals 3 ∷ reads 0x68 0x41 ∷ noChange (signals 3) ∷ writes 0x6a 0xff ∷ writes 0x7a 0x48
+    ∷ «in» 3 true nak ∷ signals 4 ∷ noChange («in» 3 true silence) ∷ reads 0x68 0x20 ∷ signals 3 ∷ «in» 3 true nak ∷ reads 0x68 0x60
+    ∷ [])
 
 -- ---- the INT pin
 
@@ -170,16 +177,17 @@ gated =
 abbrev pub interrupts : List Step
 interrupts =
     on
-    ++ (writes 0x72 0x01 ∷ pinned (Level Low) (writes 0x82 0x01) ∷ pinned (Level High) (writes 0x8a 0x04) ∷ pinned (Level Low) (writes 0x6a 0x01)
-    ∷ pinned (Level Open) (writes 0x8a 0x0c) ∷ pinned (Level Low) (writes 0x62 0x01) ∷ pinned (Level Low) (writes 0x8a 0x08)
-    ∷ pinned (Level Open) (writes 0x82 0xfe) ∷ pinned (Level High) (writes 0x8a 0x00) ∷ [])
+    ++ (writes 0x72 0x01 ∷ pinned (Level Low) (writes 0x82 0x01) ∷ pinned (Level High) (writes 0x8a 0x04)
+    ∷ pinned (Level Low) (writes 0x6a 0x01) ∷ pinned (Level Open) (writes 0x8a 0x0c) ∷ pinned (Level Low) (writes 0x62 0x01)
+    ∷ pinned (Level Low) (writes 0x8a 0x08) ∷ pinned (Level Open) (writes 0x82 0xfe) ∷ pinned (Level High) (writes 0x8a 0x00) ∷ [])
 
 -- ---- every register: written with FF, 00 and two patterns, and read back
 
 -- what a register reads after each of FF, A5, 5A and 00 is written to it
 abbrev pub written : ℕ → ℕ → ℕ → ℕ → ℕ → ℕ → List Step
 written write read ff a5 s5a s00 =
-    writes write 0xff ∷ reads read ff ∷ writes write 0xa5 ∷ reads read a5 ∷ writes write 0x5a ∷ reads read s5a ∷ writes write 0x00 ∷ reads read s00 ∷ []
+    writes write 0xff ∷ reads read ff ∷ writes write 0xa5 ∷ reads read a5 ∷ writes write 0x5a ∷ reads read s5a ∷ writes write 0x00 ∷
+    reads read s00 ∷ []
 
 abbrev pub storedRegisters : List Step
 storedRegisters =
@@ -193,23 +201,36 @@ storedRegisters =
     -- R1, R4, R6 too; R5, R7 and R8 take a count of 0 only, of these
     ++ map noChange (writes 0x0a 0xff ∷ writes 0x22 0xff ∷ writes 0x32 0x01 ∷ [])
     -- R20: the low four, the input pins stay
-    ++ (called (event (record { code = 5; pins = 0x36; address = 0; endpoint = 0; damaged = false; data1 = false; acknowledged = false }) [] 0) (answered done) (Level High) ∷ [])
+    ++ (called (event (record {
+      code = 5;
+      pins = 0x36;
+      address = 0;
+      endpoint = 0;
+      damaged = false;
+      data1 = false;
+      acknowledged =
+          false;
+    }) [] 0) (answered done) (Level High) ∷ [])
     ++ written 0xa2 0xa0 0x6f 0x65 0x6a 0x60
     -- R13: a 1 clears; OSCOKIRQ is set
     ++ (writes 0x6a 0xfe ∷ reads 0x68 0x01 ∷ writes 0x6a 0x01 ∷ reads 0x68 0x00 ∷ [])
     -- R17: a 1 clears the NAK bits, which three NAKs set; the other five are stored; FDUPSPI then shows R11 and R13 in reply byte 0
-    ++ («in» 0 true nak ∷ «in» 2 true nak ∷ «in» 3 true nak ∷ reads 0x88 0xe0 ∷ writes 0x8a 0x43 ∷ reads 0x88 0xa3 ∷ signals 8 ∷ writes 0x8a 0x90
-    ∷ spi (0x88 ∷ 0 ∷ []) (0x99 ∷ 0x30 ∷ []) ∷ signals 6 ∷ spi (0x88 ∷ 0 ∷ []) (0x59 ∷ 0x10 ∷ []) ∷ spi (0x8a ∷ 0x00 ∷ []) (0x59 ∷ 0 ∷ []) ∷ reads 0x88 0x00 ∷ [])
+    ++ («in» 0 true nak ∷ «in» 2 true nak ∷ «in» 3 true nak ∷ reads 0x88 0xe0 ∷ writes 0x8a 0x43 ∷ reads 0x88 0xa3 ∷ signals 8 ∷
+    writes 0x8a 0x90
+    ∷ spi (0x88 ∷ 0 ∷ []) (0x99 ∷ 0x30 ∷ []) ∷ signals 6 ∷ spi (0x88 ∷ 0 ∷ []) (0x59 ∷ 0x10 ∷ []) ∷ spi (0x8a ∷ 0x00 ∷ []) (0x59 ∷ 0 ∷ [])
+    ∷ reads 0x88 0x00 ∷ [])
     -- R15: bits 7..2; CHIPRES going 0 to 1 resets, 1 to 1 does not
-    ++ (writes 0x7a 0x5b ∷ reads 0x78 0x58 ∷ writes 0x62 0x3f ∷ writes 0x7a 0xa5 ∷ reads 0x78 0xa4 ∷ reads 0x60 0x00 ∷ writes 0x62 0x3f ∷ writes 0x7a 0xff
+    ++ (writes 0x7a 0x5b ∷ reads 0x78 0x58 ∷ writes 0x62 0x3f ∷ writes 0x7a 0xa5 ∷ reads 0x78 0xa4 ∷ reads 0x60 0x00 ∷ writes 0x62 0x3f ∷
+    writes 0x7a 0xff
     ∷ reads 0x78 0xfc ∷ reads 0x60 0x3f ∷ writes 0x7a 0x00 ∷ reads 0x78 0x00 ∷ [])
 
 -- R11: each bit with a 1 and without
 abbrev pub clearedIrqs : List Step
 clearedIrqs =
     on
-    ++ (setup (0x21 ∷ 0x09 ∷ 0 ∷ 0 ∷ 0 ∷ 0 ∷ 0x02 ∷ 0 ∷ []) ∷ out 0 true (0x01 ∷ []) ack ∷ out 1 false (0x02 ∷ []) ack ∷ r11 0x3f ∷ noChange (writes 0x5a 0xd8)
-    ∷ writes 0x5a 0x01 ∷ r11 0x3e ∷ writes 0x5a 0x02 ∷ r11 0x3c ∷ writes 0x5a 0x20 ∷ r11 0x1c ∷ writes 0x5a 0xff ∷ r11 0x18 ∷ [])
+    ++ (setup (0x21 ∷ 0x09 ∷ 0 ∷ 0 ∷ 0 ∷ 0 ∷ 0x02 ∷ 0 ∷ []) ∷ out 0 true (0x01 ∷ []) ack ∷ out 1 false (0x02 ∷ []) ack ∷ r11 0x3f
+    ∷ noChange (writes 0x5a 0xd8) ∷ writes 0x5a 0x01 ∷ r11 0x3e ∷ writes 0x5a 0x02 ∷ r11 0x3c ∷ writes 0x5a 0x20 ∷ r11 0x1c
+    ∷ writes 0x5a 0xff ∷ r11 0x18 ∷ [])
 
 -- a burst writes R9 to R20 and sticks there, and one reads R5 to R20, each register once
 abbrev pub bursts : List Step
@@ -226,8 +247,8 @@ fullBursts =
     on
     ++ (spi (0x02 ∷ replicate 64 0x01 ++ (0x02 ∷ [])) (replicate 66 0) ∷ noChange (writes 0x02 0x03)
     ∷ spi (0x12 ∷ replicate 64 0x04 ++ (0x05 ∷ [])) (replicate 66 0) ∷ noChange (writes 0x12 0x06)
-    ∷ spi (0x1a ∷ replicate 64 0x07 ++ (0x08 ∷ [])) (replicate 66 0) ∷ noChange (writes 0x1a 0x09)
-    ∷ writes 0x3a 0x40 ∷ writes 0x42 0x40 ∷ «in» 2 true (sent false (replicate 64 0x04)) ∷ «in» 3 true (sent false (replicate 64 0x07)) ∷ [])
+    ∷ spi (0x1a ∷ replicate 64 0x07 ++ (0x08 ∷ [])) (replicate 66 0) ∷ noChange (writes 0x1a 0x09) ∷ writes 0x3a 0x40
+    ∷ writes 0x42 0x40 ∷ «in» 2 true (sent false (replicate 64 0x04)) ∷ «in» 3 true (sent false (replicate 64 0x07)) ∷ [])
 
 -- ---- refusals, and what is just not refused
 
@@ -237,16 +258,20 @@ refuses k r = still k (refused r) (Level High)
 abbrev pub refusals : List Step
 refusals =
     refuses (transfer [] 0) NoCommand ∷ refuses (transfer (replicate 4097 0) 0) LongTransfer ∷ refuses (transfer (0 ∷ 0 ∷ []) 1) ShortBuffer
-    ∷ refuses (event (plain 0) [] 0) UnknownEvent ∷ refuses (event (plain 13) [] 0) UnknownEvent ∷ refuses (event (transaction 12 128 0) [] 63) ShortBuffer
-    ∷ refuses (event (transaction 11 128 0) (replicate 65 0) 0) BadPayload ∷ refuses (event (transaction 10 0 16) (replicate 7 0) 0) BadPayload
+    ∷ refuses (event (plain 0) [] 0) UnknownEvent ∷ refuses (event (plain 13) [] 0) UnknownEvent ∷ refuses
+    (event (transaction 12 128 0) [] 63) ShortBuffer
+    ∷ refuses (event (transaction 11 128 0) (replicate 65 0) 0) BadPayload ∷ refuses
+    (event (transaction 10 0 16) (replicate 7 0) 0) BadPayload
     ∷ refuses (event (transaction 10 0 0) (replicate 9 0) 0) BadPayload ∷ refuses (event (transaction 12 128 0) [] 64) BadAddress
     ∷ refuses (event (transaction 12 0 16) [] 64) BadAddress ∷ refuses (event (transaction 11 128 0) [] 0) BadAddress
     ∷ refuses (event (transaction 10 128 0) (replicate 8 0) 0) BadAddress
     ∷ called (transfer (0x90 ∷ replicate 4095 0) 4096) (answered (transferred (0 ∷ 0x01 ∷ 0 ∷ replicate 4093 0))) (Level High)
     ∷ answers (transaction 12 127 15) [] silence ∷ answers (transaction 11 127 15) (replicate 64 0) silence
-    ∷ called (event (transaction 11 0 1) [] 0) (answered silence) (Level High) ∷ called (event (transaction 10 0 0) (replicate 8 0) 0) (answered silence) (Level High) ∷ []
+    ∷ called (event (transaction 11 0 1) [] 0) (answered silence) (Level High) ∷ called (event (transaction 10 0 0) (replicate 8 0) 0)
+    (answered silence) (Level High) ∷ []
 
 abbrev pub examples : List (List Step)
 examples =
-    readTransfer ∷ writeTransfer ∷ stages ∷ setAddress ∷ released ∷ toggles ∷ silent ∷ stalled ∷ single ∷ resetInBurst ∷ armedAfterReset ∷ signalled ∷
+    readTransfer ∷ writeTransfer ∷ stages ∷ setAddress ∷ released ∷ toggles ∷ silent ∷ stalled ∷ single ∷ resetInBurst ∷ armedAfterReset ∷
+    signalled ∷
     gated ∷ interrupts ∷ storedRegisters ∷ clearedIrqs ∷ bursts ∷ fullBursts ∷ refusals ∷ []

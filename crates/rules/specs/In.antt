@@ -13,7 +13,8 @@ use Rattle.chip.specs.declared.Endpoint0.{Endpoint0}
 use Rattle.chip.specs.declared.Endpoint2.{Endpoint2}
 use Rattle.chip.specs.declared.Endpoint3.{Endpoint3}
 use Rattle.chip.specs.declared.Chip.{Chip}
-use Rattle.chip.specs.Mask.{ackstat, stlstat, stlep0in, stlep2in, stlep3in, ep2disab, ep3disab, in0bavirq, in2bavirq, in3bavirq, ep0inak, ep2inak, ep3inak, fnaddrBits}
+use Rattle.chip.specs.Mask.{ackstat, stlstat, stlep0in, stlep2in, stlep3in, ep2disab, ep3disab, in0bavirq, in2bavirq, in3bavirq}
+use Rattle.chip.specs.Mask.{ep0inak, ep2inak, ep3inak, fnaddrBits}
 use Rattle.chip.specs.Set.{setEp0, setEp2, setEp3, setPinctl, setFnaddr}
 use Rattle.model.specs.Reply.{Outcome, outcome, Reply, silence, nak, stall, sent}
 use Rattle.rules.specs.declared.InVerdict.{InVerdict}
@@ -82,7 +83,8 @@ abbrev pub inVerdict : Bool → Bool → Bool → InVerdict
 inVerdict disabled stalled armed = firstOf ((disabled, Silent) ∷ (stalled, Stall) ∷ (armed, Send) ∷ []) Nak
 
 abbrev pub in2Verdict : Chip → InVerdict
-in2Verdict c = inVerdict (has (c .registers .clrtogs) ep2disab) (has (c .registers .epstalls) stlep2in) (not (eqb (c .ep2 .ring .waiting) 0))
+in2Verdict c = inVerdict (has (c .registers .clrtogs) ep2disab) (has (c .registers .epstalls) stlep2in)
+    (not (eqb (c .ep2 .ring .waiting) 0))
 
 abbrev pub ep2Gone : Endpoint2 → Endpoint2
 ep2Gone e = record { ring = releaseOldest 2 (e .ring); count = e .count; writepos = e .writepos; toggle = not (e .toggle) }
@@ -105,4 +107,5 @@ abbrev pub in3Gone : Chip → Chip
 in3Gone c = raiseEpirq in3bavirq (setEp3 (ep3Gone (c .ep3)) c)
 
 abbrev pub in3 : Chip → Bool → Outcome Chip Reply
-in3 c acknowledged = inOutcome ep3inak (sent (c .ep3 .toggle) (take (c .ep3 .count) (c .ep3 .bytes))) (in3Gone c) c acknowledged (in3Verdict c)
+in3 c acknowledged = inOutcome ep3inak (sent (c .ep3 .toggle) (take (c .ep3 .count) (c .ep3 .bytes))) (in3Gone c) c acknowledged
+    (in3Verdict c)

@@ -118,7 +118,12 @@ noteEp2inbc l n = armBuffer n (leb 2 (waitingAt2 (l .sender))) l (setSender (sen
 -- R10: a 1 in bit 2 sets endpoint 1's toggle to DATA0
 abbrev pub noteClrtogs : LedgerWrite
 noteClrtogs l b =
-    setReceiver (record { stored = l .receiver .stored; released = l .receiver .released; toggle = l .receiver .toggle && lacks b ctgep1out }) l
+    setReceiver (record {
+      stored = l .receiver .stored;
+      released = l .receiver .released;
+      toggle =
+          l .receiver .toggle && lacks b ctgep1out;
+    }) l
 
 -- R11: a 1 in OUT1DAVIRQ adds the oldest stored packet not released, if any, to released
 abbrev pub oldestKept : Receiver → List (List ℕ)

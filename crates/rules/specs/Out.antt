@@ -34,7 +34,8 @@ outOutcome c taken Status = outcome c ack
 -- status (000 pages 1, 64): STALL if STLSTAT or if it isn't empty (h, decision 51); else with ACKSTAT=1 ACK; else NAK
 abbrev pub out0Status : Chip → ℕ → OutVerdict
 out0Status c n =
-    firstOf ((has (c .registers .epstalls) stlstat, Stall) ∷ (not (eqb n 0), Stall) ∷ (has (c .registers .epstalls) ackstat, Status) ∷ []) Nak
+    firstOf ((has (c .registers .epstalls) stlstat, Stall) ∷ (not (eqb n 0), Stall) ∷ (has (c .registers .epstalls) ackstat, Status) ∷
+    []) Nak
 
 -- data: STALL if STLEP0OUT is set (000 page 60) or wLength is 0 (h); NAK if there is no room: OUT0DAVIRQ=1 or armed; wrong toggle:
 -- ACK, dropped; else stored

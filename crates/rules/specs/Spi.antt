@@ -24,7 +24,8 @@ setAckstat c = setEpstalls (raised ackstat (c .registers .epstalls)) c
 -- OUT0DAVIRQ, IN0BAVIRQ (bits 5..0 of R11); else 0 (h)
 abbrev pub statusByte : Chip → ℕ
 statusByte c =
-    cond (has (c .registers .pinctl) fdupspi) (bitOr (bitAnd (c .registers .usbirq) statusIrqs * 8) (bitAnd (c .registers .epirq) epirqBits)) 0
+    cond (has (c .registers .pinctl) fdupspi)
+    (bitOr (bitAnd (c .registers .usbirq) statusIrqs * 8) (bitAnd (c .registers .epirq) epirqBits)) 0
 
 abbrev pub max3420eSpi : Spi Chip
 max3420eSpi = record {

@@ -13,8 +13,11 @@ use Rattle.chip.specs.declared.Endpoint1.{Endpoint1}
 use Rattle.chip.specs.declared.Endpoint2.{Endpoint2}
 use Rattle.chip.specs.declared.Endpoint3.{Endpoint3}
 use Rattle.chip.specs.declared.Chip.{Chip}
-use Rattle.chip.specs.Mask.{othersThan, countBits, epstallsBits, disableBits, ctgep1out, ctgep2in, ctgep3in, clearedEpirqs, out1davirq, in0bavirq, in2bavirq, in3bavirq, out0davirq, epienBits, usbctlBits, chipres, ie, inakBits, pinBits, inputBits, outputBits}
-use Rattle.chip.specs.Set.{setEp0, setEp1, setEp2, setEp3, setEpstalls, setClrtogs, setEpirq, setEpien, setUsbirq, setUsbien, setUsbctl, setCpuctl, setPinctl, setIopins}
+use Rattle.chip.specs.Mask.{othersThan, countBits, epstallsBits, disableBits, ctgep1out, ctgep2in, ctgep3in, clearedEpirqs}
+use Rattle.chip.specs.Mask.{out1davirq, in0bavirq, in2bavirq, in3bavirq, out0davirq, epienBits, usbctlBits, chipres, ie, inakBits}
+use Rattle.chip.specs.Mask.{pinBits, inputBits, outputBits}
+use Rattle.chip.specs.Set.{setEp0, setEp1, setEp2, setEp3, setEpstalls, setClrtogs, setEpirq, setEpien, setUsbirq, setUsbien}
+use Rattle.chip.specs.Set.{setUsbctl, setCpuctl, setPinctl, setIopins}
 use Rattle.reset.specs.declared.Reset.the-variants.{ChipReset}
 use Rattle.reset.specs.Reset.{chipAfter}
 
@@ -63,7 +66,14 @@ abbrev pub writeEp2infifo : WriteRule
 writeEp2infifo c b = storeFifo (c .ep2 .writepos) (full 2 (c .ep2 .ring)) c (setEp2 (ep2Stored (c .ep2) b) c)
 
 abbrev pub ep3Stored : Endpoint3 → ℕ → Endpoint3
-ep3Stored e b = record { bytes = set (e .bytes) (e .writepos) b; count = e .count; armed = e .armed; writepos = e .writepos + 1; toggle = e .toggle }
+ep3Stored e b = record {
+  bytes = set (e .bytes) (e .writepos) b;
+  count = e .count;
+  armed = e .armed;
+  writepos = e .writepos + 1;
+  toggle =
+      e .toggle;
+}
 
 -- R3, EP3INFIFO (000 page 22): the chip's while it is armed (h)
 abbrev pub writeEp3infifo : WriteRule

@@ -11,7 +11,8 @@ use Rattle.descriptor.proofs.copy.Statement.{statement}
 use Rattle.descriptor.proofs.copy.Tie as tie
 
 -- what a copy of the first n bytes leaves
-copied : (n : ℕ) (xs ys : List ℕ) → n ≤ length xs → take (length (take n xs)) (take n xs) ++ drop (length (take n xs)) ys ≡ take n xs ++ drop n ys
+copied : (n : ℕ) (xs ys : List ℕ) → n ≤ length xs → take (length (take n xs)) (take n xs) ++ drop (length (take n xs)) ys
+    ≡ take n xs ++ drop n ys
 copied n xs ys h = rw (take-length (take n xs), length-take-le n xs h)
 
 slice-aggregate-copy : tie.Need-slice-aggregate-copy

@@ -23,7 +23,8 @@ returns-4 : tie.Need-returns-4
 returns-4 c = rw (c .before .before .before .before .before .match .keys4) (c .before .before .copy4 .ensures)
 
 returns-5 : tie.Need-returns-5
-returns-5 c = let past : length strings ≤ c .before .before .args .index = omega arith in rw (List·getD-eq-default strings [] past, min-zero) (refl, refl)
+returns-5 c = let past : length strings ≤ c .before .before .args .index = omega arith in rw
+    (List·getD-eq-default strings [] past, min-zero) (refl, refl)
 
 pub copy-string-spec : {M : Type 1} → statement M
 copy-string-spec =

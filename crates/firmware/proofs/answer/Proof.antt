@@ -15,14 +15,16 @@ returns-2 : tie.Need-returns-2
 unfolding handled
 returns-2 c =
     handled-told _ _ _
-    (rw (← c .before .before .before .is-sound .ensures, c .before .before .if1 .left, lt-ltb _ 64 (c .before .if2 .taken)) (c .unchanged2 .ensures, refl))
+    (rw (← c .before .before .before .is-sound .ensures, c .before .before .if1 .left, lt-ltb _ 64 (c .before .if2 .taken))
+    (c .unchanged2 .ensures, refl))
 
 returns-3 : tie.Need-returns-3
 unfolding handled
 returns-3 c =
     let b = c .before .before in
     handled-told _ _ _
-    (rw (← b .before .before .is-sound .ensures, b .before .if1 .left, le-ltb _ 64 (b .if2 .left), ne-eqb _ 8 (c .before .if3 .taken)) (c .unchanged3 .ensures, refl))
+    (rw (← b .before .before .is-sound .ensures, b .before .if1 .left, le-ltb _ 64 (b .if2 .left), ne-eqb _ 8 (c .before .if3 .taken))
+    (c .unchanged3 .ensures, refl))
 
 returns-4 : tie.Need-returns-4
 unfolding handled
@@ -30,7 +32,13 @@ returns-4 c =
     let p = c .before .before .before .before in
     let b = p .before .before in
     handled-told _ _ _
-    (rw (← b .before .before .is-sound .ensures, b .before .if1 .left, le-ltb _ 64 (b .if2 .left), eq-eqb _ 8 (p .before .if3 .left), ← p .parse .ensures)
+    (rw (
+      ← b .before .before .is-sound .ensures,
+      b .before .if1 .left,
+      le-ltb _ 64 (b .if2 .left),
+      eq-eqb _ 8 (p .before .if3 .left),
+      ← p .parse .ensures,
+    )
     (c .before .before .serve .ensures))
 
 pub answer-spec : {M : Type 1} → statement M

@@ -12,4 +12,5 @@ returns-4 c = rw (c .enum-told4 .given .1)
 pub clrtogs-spec : {M : Type 1} → statement M
 clrtogs-spec =
     tie.close
-    (tie.spec (λ c. search needs) (λ c. search needs) (λ c. search needs) (λ c. search needs) (λ c. search needs) returns-2 (λ c. search needs) returns-4)
+    (tie.spec (λ c. search needs) (λ c. search needs) (λ c. search needs) (λ c. search needs) (λ c. search needs) returns-2
+    (λ c. search needs) returns-4)

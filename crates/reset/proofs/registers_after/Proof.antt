@@ -49,7 +49,19 @@ returns c =
     let a3 = a4 .before in
     let a2 = a3 .before in
     let a1 = a2 .before in
-    rw (a1 .register-after .ensures, a2 .register-after2 .ensures, a3 .register-after3 .ensures, a4 .register-after4 .ensures, a5 .register-after5 .ensures, a6 .register-after6 .ensures, a7 .register-after7 .ensures, a8 .register-after8 .ensures, a9 .register-after9 .ensures, a10 .register-after10 .ensures, a11 .register-after11 .ensures)
+    rw (
+      a1 .register-after .ensures,
+      a2 .register-after2 .ensures,
+      a3 .register-after3 .ensures,
+      a4 .register-after4 .ensures,
+      a5 .register-after5 .ensures,
+      a6 .register-after6 .ensures,
+      a7 .register-after7 .ensures,
+      a8 .register-after8 .ensures,
+      a9 .register-after9 .ensures,
+      a10 .register-after10 .ensures,
+      a11 .register-after11 .ensures,
+    )
 
 pub registers-after-spec : {M : Type 1} → statement M
 registers-after-spec =

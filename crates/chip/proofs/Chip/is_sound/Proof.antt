@@ -24,7 +24,14 @@ sound-irqs-requires c κs = search needs
 
 returns : tie.Need-returns
 unfolding soundChip
-returns c = rw (c .before .before .before .before .before .is-sound .ensures, c .before .before .before .before .is-sound2 .ensures, c .before .before .before .is-sound3 .ensures, c .before .before .is-sound4 .ensures, c .before .is-sound5 .ensures, c .sound-irqs .ensures)
+returns c = rw (
+  c .before .before .before .before .before .is-sound .ensures,
+  c .before .before .before .before .is-sound2 .ensures,
+  c .before .before .before .is-sound3 .ensures,
+  c .before .before .is-sound4 .ensures,
+  c .before .is-sound5 .ensures,
+  c .sound-irqs .ensures,
+)
 
 pub is-sound-spec : {M : Type 1} → statement M
 is-sound-spec =

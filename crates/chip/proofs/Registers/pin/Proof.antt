@@ -20,14 +20,22 @@ choose-level-requires-2 c κs = search needs
 
 returns-2 : tie.Need-returns-2
 unfolding pinOf
-returns-2 c = rw (eq-eqb _ _ (c .before .before .before .if1 .left), ne-eqb _ _ (c .before .if2 .taken), ← c .before .before .before .before .before .interrupt-active .ensures) (c .choose-level2 .ensures)
+returns-2 c = rw (
+  eq-eqb _ _ (c .before .before .before .if1 .left),
+  ne-eqb _ _ (c .before .if2 .taken),
+  ← c .before .before .before .before .before .interrupt-active .ensures,
+) (c .choose-level2 .ensures)
 
 choose-level-requires-3 : tie.Need-choose-level-requires-3
 choose-level-requires-3 c κs = search needs
 
 returns-3 : tie.Need-returns-3
 unfolding pinOf
-returns-3 c = rw (eq-eqb _ _ (c .before .before .before .if1 .left), eq-eqb _ _ (c .before .if2 .left), ← c .before .before .before .before .before .interrupt-active .ensures) (c .choose-level3 .ensures)
+returns-3 c = rw (
+  eq-eqb _ _ (c .before .before .before .if1 .left),
+  eq-eqb _ _ (c .before .if2 .left),
+  ← c .before .before .before .before .before .interrupt-active .ensures,
+) (c .choose-level3 .ensures)
 
 pub pin-spec : {M : Type 1} → statement M
 pin-spec =

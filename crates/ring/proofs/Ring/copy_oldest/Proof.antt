@@ -49,8 +49,14 @@ returns c =
     let start = a .self .oldest % 2 * 64 in
     let n = c .before .before .before .before .before .before .before .oldest-count .result in
     let long : length (a .self .bytes) ≡ 128 = search needs in
-    let count : (start + n) - start ≡ oldestCount 2 (a .self) = omega (arith, c .before .before .before .before .before .before .before .oldest-count .ensures) in
-    copied-out (take ((start + n) - start) (drop start (a .self .bytes))) (oldestPacket 2 (a .self)) (now (a .reply)) (c .before .before .copy .last .1 .0) (oldestCount 2 (a .self)) (c .before .before .copy .result) (ap (λ (k : ℕ). take k (drop start (a .self .bytes))) count) (packet-length (a .self .bytes) (a .self .oldest % 2) (oldestCount 2 (a .self)) (omega (arith, c .before .before .before .before .before .before .before .before .before .before .pre .0))) (c .before .before .copy .ensures .0) (c .before .before .copy .ensures .1)
+    let count : (start + n) - start ≡ oldestCount 2 (a .self) = omega
+    (arith, c .before .before .before .before .before .before .before .oldest-count .ensures) in
+    copied-out (take ((start + n) - start) (drop start (a .self .bytes))) (oldestPacket 2 (a .self)) (now (a .reply))
+    (c .before .before .copy .last .1 .0) (oldestCount 2 (a .self)) (c .before .before .copy .result)
+    (ap (λ (k : ℕ). take k (drop start (a .self .bytes))) count)
+    (packet-length (a .self .bytes) (a .self .oldest % 2) (oldestCount 2 (a .self))
+    (omega (arith, c .before .before .before .before .before .before .before .before .before .before .pre .0)))
+    (c .before .before .copy .ensures .0) (c .before .before .copy .ensures .1)
 
 pub copy-oldest-spec : {M : Type 1} → statement M
 copy-oldest-spec =

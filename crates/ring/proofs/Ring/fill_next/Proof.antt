@@ -1,4 +1,5 @@
--- `Ring::fill_next` meets its promise. The two tests of the code are the definition's; the copy into the array is the definition's run of stores.
+-- `Ring::fill_next` meets its promise. The copy into the array is the
+-- definition's run of stores.
 use mathlib.Core.Path.{_≡_, _∙_, ap, ap₂}
 use mathlib.Core.List.{List}
 use Prim.Native.Nat.{ℕ, _+_, _-_, _*_, _≤_}
@@ -46,7 +47,9 @@ returns c =
     let start = c .before .before .before .before .before .next-buffer .result * 64 in
     let long : length (a .self .bytes) ≡ 128 = search needs in
     let fits : start + length vs ≤ 128 = omega (arith, c .before .before .before .before .before .next-buffer .ensures .1) in
-    let bytes = ap (putMid start (128 - start) (a .self .bytes)) (c .before .before .copy .ensures .1) ∙ copied-in (a .self .bytes) vs start 128 long fits ∙ ap (λ (k : ℕ). sets (a .self .bytes) (k * 64) vs) (c .before .before .before .before .before .next-buffer .ensures .0) in
+    let bytes = ap (putMid start (128 - start) (a .self .bytes)) (c .before .before .copy .ensures .1) ∙ copied-in
+    (a .self .bytes) vs start 128 long fits ∙ ap (λ (k : ℕ). sets (a .self .bytes) (k * 64) vs)
+    (c .before .before .before .before .before .next-buffer .ensures .0) in
     c .arm-next .ensures ∙ ap₂ (λ (s : List ℕ) (n : ℕ). armNext 2 (withBytes (a .self) s) n) bytes (c .before .before .copy .ensures .0)
 
 pub fill-next-spec : {M : Type 1} → statement M

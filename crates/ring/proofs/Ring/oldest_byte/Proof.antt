@@ -15,7 +15,8 @@ oldest-count-requires c κs = search needs
 returns : tie.Need-returns
 returns c =
     let a = c .before .before .args in
-    sym (packet-past (a .t1 .bytes) (a .t1 .oldest % 2) (oldestCount 2 (a .t1)) (a .position) (omega (arith, c .before .oldest-count .ensures)))
+    sym (packet-past (a .t1 .bytes) (a .t1 .oldest % 2) (oldestCount 2 (a .t1)) (a .position)
+    (omega (arith, c .before .oldest-count .ensures)))
 
 cast-at : tie.Need-cast-at
 cast-at c = search needs
@@ -30,7 +31,8 @@ returns-2 : tie.Need-returns-2
 returns-2 c =
     let a = c .before .before .before .args in
     let long : length (a .t1 .bytes) ≡ 128 = search needs in
-    sym (packet-byte (a .t1 .bytes) (a .t1 .oldest % 2) (oldestCount 2 (a .t1)) (a .position) (omega (arith, c .before .before .oldest-count .ensures)) ∙ List·getD-eq-default (a .t1 .bytes) 0 (omega arith))
+    sym (packet-byte (a .t1 .bytes) (a .t1 .oldest % 2) (oldestCount 2 (a .t1)) (a .position)
+    (omega (arith, c .before .before .oldest-count .ensures)) ∙ List·getD-eq-default (a .t1 .bytes) 0 (omega arith))
 
 element-copy-out-result : tie.Need-element-copy-out-result
 element-copy-out-result c = search needs
@@ -38,7 +40,8 @@ element-copy-out-result c = search needs
 returns-3 : tie.Need-returns-3
 returns-3 c =
     let a = c .before .before .before .before .args in
-    sym (packet-byte (a .t1 .bytes) (a .t1 .oldest % 2) (oldestCount 2 (a .t1)) (a .position) (omega (arith, c .before .before .before .oldest-count .ensures)))
+    sym (packet-byte (a .t1 .bytes) (a .t1 .oldest % 2) (oldestCount 2 (a .t1)) (a .position)
+    (omega (arith, c .before .before .before .oldest-count .ensures)))
 
 pub oldest-byte-spec : {M : Type 1} → statement M
 oldest-byte-spec =
