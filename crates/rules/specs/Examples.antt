@@ -203,7 +203,7 @@ storedRegisters =
     -- R20: the low four, the input pins stay
     ++ (called (event (record {
       code = 5;
-      pins = 0x36;
+      pins = 0x3f;
       address = 0;
       endpoint = 0;
       damaged = false;
@@ -211,7 +211,7 @@ storedRegisters =
       acknowledged =
           false;
     }) [] 0) (answered done) (Level High) ∷ [])
-    ++ written 0xa2 0xa0 0x6f 0x65 0x6a 0x60
+    ++ written 0xa2 0xa0 0xff 0xf5 0xfa 0xf0
     -- R13: a 1 clears; OSCOKIRQ is set
     ++ (writes 0x6a 0xfe ∷ reads 0x68 0x01 ∷ writes 0x6a 0x01 ∷ reads 0x68 0x00 ∷ [])
     -- R17: a 1 clears the NAK bits, which three NAKs set; the other five are stored; FDUPSPI then shows R11 and R13 in reply byte 0
