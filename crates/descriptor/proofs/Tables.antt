@@ -6,7 +6,7 @@ use Prim.Native.Nat.{ℕ, zero, suc, _+_, _*_, _≤_}
 use borrow.Author.Tests.{leb-true}
 use lib.Dec.{leb, lit≤}
 use lib.ListN.{length, getD}
-use Rattle.descriptor.specs.Table.{device, configuration, hid, report, strings, bytesOf}
+use Rattle.descriptor.specs.Table.{device, configuration, hid, report, strings, dataBytes}
 use Rattle.descriptor.specs.Printed.{printed, found}
 use Rattle.descriptor.specs.declared.Data.{Data}
 use Rattle.descriptor.specs.declared.Data.the-variants.{Status, Byte, Device, Configuration, Hid, Report, String}
@@ -44,7 +44,7 @@ tables = device ∷ configuration ∷ hid ∷ report ∷ strings
 short : (i : ℕ) → length (getD tables i []) ≤ 64
 short i = leb-true _ 64 (every-getD (λ (table : List ℕ). leb (length table) 64) tables [] refl refl i)
 
-pub bytes-fit : (d : Data) → length (bytesOf d) ≤ 64
+pub bytes-fit : (d : Data) → length (dataBytes d) ≤ 64
 bytes-fit (Status b) = lit≤ tt
 bytes-fit (Byte b) = lit≤ tt
 bytes-fit Device = short 0

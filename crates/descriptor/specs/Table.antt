@@ -43,11 +43,11 @@ abbrev pub strings : List (List ℕ)
 strings = (0x04 ∷ 0x03 ∷ 0x09 ∷ 0x04 ∷ []) ∷ stringOf "Maxim" ∷ stringOf "MAX3420E Enum Code" ∷ stringOf "S/N 3420E" ∷ []
 
 -- what there is to send; a string index that does not exist has no bytes
-abbrev pub bytesOf : Data → List ℕ
-bytesOf (Status b) = b ∷ 0x00 ∷ []
-bytesOf (Byte b) = b ∷ []
-bytesOf Device = device
-bytesOf Configuration = configuration
-bytesOf Hid = hid
-bytesOf Report = report
-bytesOf (String i) = getD strings i []
+abbrev pub dataBytes : Data → List ℕ
+dataBytes (Status b) = b ∷ 0x00 ∷ []
+dataBytes (Byte b) = b ∷ []
+dataBytes Device = device
+dataBytes Configuration = configuration
+dataBytes Hid = hid
+dataBytes Report = report
+dataBytes (String i) = getD strings i []

@@ -2,7 +2,7 @@
 ghost use mathlib.Core.Path.{_≡_};
 ghost use Prim.Native.Nat.{_≤_, min};
 ghost use lib.ListN.{length};
-ghost use Rattle.descriptor.specs.Table.{bytesOf};
+ghost use Rattle.descriptor.specs.Table.{dataBytes};
 ghost use Rattle.descriptor.specs.Send.{Sent};
 
 // What a request reads: a status byte and a zero, one byte, or a descriptor; a string goes by its index.
@@ -59,7 +59,7 @@ fn copy(table: &[u8], wlength: u16, reply: &mut [u8]) -> u8
 // The same of a string descriptor; an index that does not exist has no bytes.
 fn copy_string(index: u8, wlength: u16, reply: &mut [u8]) -> u8
     requires { ⌜ 64 ≤ length (now reply) ⌝ }
-    ensures { λ r. ⌜ Sent (bytesOf (Data.String index)) wlength (now (reply .entry)) r (now (reply .exit)) ⌝ }
+    ensures { λ r. ⌜ Sent (dataBytes (Data.String index)) wlength (now (reply .entry)) r (now (reply .exit)) ⌝ }
 {
     match index {
         0 => copy(&LANGUAGES, wlength, reply),
@@ -74,7 +74,7 @@ impl Data {
     // Writes what is read to the reply buffer, at most wLength bytes of it, and tells how many.
     pub fn send(self, wlength: u16, reply: &mut [u8]) -> u8
         requires { ⌜ 64 ≤ length (now reply) ⌝ }
-        ensures { λ r. ⌜ Sent (bytesOf self) wlength (now (reply .entry)) r (now (reply .exit)) ⌝ }
+        ensures { λ r. ⌜ Sent (dataBytes self) wlength (now (reply .entry)) r (now (reply .exit)) ⌝ }
     {
         match self {
             Data::Status(b) => copy(&[b, 0], wlength, reply),

@@ -10,7 +10,7 @@ use lib.Dec.{eqb, ltb}
 use lib.ListN.{length}
 use Rattle.descriptor.proofs.Tables.{bytes-fit}
 use Rattle.descriptor.specs.Send.{count}
-use Rattle.descriptor.specs.Table.{bytesOf}
+use Rattle.descriptor.specs.Table.{dataBytes}
 use Rattle.request.specs.Record.{soundFirmware, powerOnFirmware}
 use Rattle.bits.specs.First.{firstOf}
 use Rattle.request.specs.Request.{requestOf, decisionOf}
@@ -48,9 +48,9 @@ served-each P stall ack some q f reply = each (decisionOf q f)
     each : (d : Decision) → P (decisionServed d (q .wlength) f reply .answer .reply)
     each Stall = stall
     each (Send d) =
-        let n = count (bytesOf d) (q .wlength) in
+        let n = count (dataBytes d) (q .wlength) in
         first-each P ((eqb n 0, RequestReply.Ack) ∷ []) (RequestReply.Data n) ((λ t. ack) ⨾ none)
-        (some n (le-trans (min-le-right (q .wlength) (length (bytesOf d))) (bytes-fit d)))
+        (some n (le-trans (min-le-right (q .wlength) (length (dataBytes d))) (bytes-fit d)))
     each (Accept next e) = ack
 
 -- ---- the numbers of a reply
@@ -67,13 +67,13 @@ count-counted n =
 decision-kind : (d : Decision) (w : ℕ) (f : Firmware) (reply : List ℕ) → requestKind (decisionServed d w f reply .answer .reply)
     ≡ decisionKind d w
 decision-kind Stall w f reply = refl
-decision-kind (Send d) w f reply = kind-counted (count (bytesOf d) w)
+decision-kind (Send d) w f reply = kind-counted (count (dataBytes d) w)
 decision-kind (Accept next e) w f reply = refl
 
 decision-count : (d : Decision) (w : ℕ) (f : Firmware) (reply : List ℕ) → requestCount (decisionServed d w f reply .answer .reply)
     ≡ decisionCount d w
 decision-count Stall w f reply = refl
-decision-count (Send d) w f reply = count-counted (count (bytesOf d) w)
+decision-count (Send d) w f reply = count-counted (count (dataBytes d) w)
 decision-count (Accept next e) w f reply = refl
 
 module _ (setup : List ℕ) (f : Firmware) (reply : List ℕ) where

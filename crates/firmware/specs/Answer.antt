@@ -7,7 +7,7 @@ use Prim.Native.Nat.{ℕ}
 use lib.Dec.{eqb, ltb}
 use lib.ListN.{length}
 use Rattle.descriptor.specs.Send.{count, written}
-use Rattle.descriptor.specs.Table.{bytesOf}
+use Rattle.descriptor.specs.Table.{dataBytes}
 use Rattle.refusal.specs.declared.Refusal.{Refusal}
 use Rattle.refusal.specs.declared.Refusal.the-variants.{Unsound, ShortBuffer, BadPayload}
 use Rattle.refusal.specs.Number.{refusalNumber}
@@ -64,7 +64,7 @@ counted n = cond (eqb n 0) Ack (Data n)
 abbrev pub decisionServed : Decision → ℕ → Firmware → List ℕ → Handled
 decisionServed Decision.Stall wlength f reply = record { answer = unchanged Stall f; buffer = reply }
 decisionServed (Decision.Send d) wlength f reply =
-    record { answer = unchanged (counted (count (bytesOf d) wlength)) f; buffer = written (bytesOf d) wlength reply }
+    record { answer = unchanged (counted (count (dataBytes d) wlength)) f; buffer = written (dataBytes d) wlength reply }
 decisionServed (Decision.Accept next e) wlength f reply =
     record { answer = record { reply = Ack; firmware = next; endpoints = e }; buffer = reply }
 
@@ -104,12 +104,12 @@ unlessRefused setup f reply n = firstOf ((not (soundFirmware f), 0) ∷ (ltb (le
 -- what kind of reply a decision gets, and how many bytes
 abbrev pub decisionKind : Decision → ℕ → ℕ
 decisionKind Decision.Stall wlength = 1
-decisionKind (Decision.Send d) wlength = cond (eqb (count (bytesOf d) wlength) 0) 2 3
+decisionKind (Decision.Send d) wlength = cond (eqb (count (dataBytes d) wlength) 0) 2 3
 decisionKind (Decision.Accept next e) wlength = 2
 
 abbrev pub decisionCount : Decision → ℕ → ℕ
 decisionCount Decision.Stall wlength = 0
-decisionCount (Decision.Send d) wlength = count (bytesOf d) wlength
+decisionCount (Decision.Send d) wlength = count (dataBytes d) wlength
 decisionCount (Decision.Accept next e) wlength = 0
 
 -- a promise's numbers: refusal, kind and count of the reply

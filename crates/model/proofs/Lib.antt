@@ -1,3 +1,4 @@
 pub mod Refusals
 pub mod Loop
 pub mod Keeps
+pub mod Runs

@@ -1,0 +1,4 @@
+pub mod Setup
+pub mod Theorem
+pub mod Enumeration
+pub mod Message

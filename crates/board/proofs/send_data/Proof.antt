@@ -1,0 +1,21 @@
+use Rattle.model.specs.Call.{runTo}
+use borrow.Author.Needs.{needs}
+use Rattle.board.proofs.send_data.Statement.{statement}
+use Rattle.board.proofs.send_data.Tie as tie
+use Rattle.board.proofs.send_data.Reads as reads
+use Rattle.board.proofs.send_data.Lts as lts
+use Rattle.board.proofs.fill.Reads as fill-reads
+use Rattle.board.proofs.send.Reads as send-reads
+
+fill-requires : tie.Need-fill-requires
+fill-requires c κs = search needs
+
+send-requires : tie.Need-send-requires
+send-requires c κs = search needs
+
+returns : tie.Need-returns
+unfolding runTo
+returns c = rw (c .send .ensures, c .before .fill .ensures)
+
+pub send-data-spec : {M : Type 1} → statement M
+send-data-spec = tie.close (tie.spec fill-requires send-requires returns)

@@ -1,0 +1,30 @@
+use Rattle.model.specs.Call.{runTo}
+use borrow.Author.Needs.{needs}
+use Rattle.board.proofs.write_both.Statement.{statement}
+use Rattle.board.proofs.write_both.Tie as tie
+use Rattle.board.proofs.write_both.Reads as reads
+use Rattle.board.proofs.write_both.Lts as lts
+use Rattle.board.proofs.send.Reads as send-reads
+use Rattle.firmware.proofs.clrtogs.Reads as clrtogs-reads
+use Rattle.firmware.proofs.epstalls.Reads as epstalls-reads
+
+epstalls-requires : tie.Need-epstalls-requires
+epstalls-requires c κs = search needs
+
+clrtogs-requires : tie.Need-clrtogs-requires
+clrtogs-requires c κs = search needs
+
+send-requires : tie.Need-send-requires
+send-requires c κs = search needs
+
+send-requires-2 : tie.Need-send-requires-2
+send-requires-2 c κs = search needs
+
+returns : tie.Need-returns
+unfolding runTo
+returns c =
+    rw (c .send2 .ensures, c .before .send .ensures, c .before .before .clrtogs .ensures, c .before .before .before .epstalls .ensures)
+
+pub write-both-spec : {M : Type 1} → statement M
+write-both-spec =
+    tie.close (tie.spec epstalls-requires clrtogs-requires send-requires send-requires-2 returns)

@@ -1,0 +1,165 @@
+-- Calls to the board: the chip calls that each makes, the records after it, and its answer.
+use mathlib.Core.Bool.{Bool, true, false, not, cond, _&&_, _||_}
+use mathlib.Core.List.{List, [], _∷_, _++_}
+use Prim.Native.Nat.{ℕ}
+use lib.Dec.{eqb, ltb}
+use Rattle.bits.specs.Bit.{has}
+use Rattle.refusal.specs.Number.{refusalNumber}
+use Rattle.refusal.specs.declared.Refusal.{Refusal}
+use Rattle.refusal.specs.declared.Refusal.the-variants.{Unsound, ShortBuffer}
+use Rattle.chip.specs.declared.Chip.{Chip}
+use Rattle.chip.specs.Record.{powerOnChip}
+use Rattle.chip.specs.Sound.{soundChip}
+use Rattle.request.specs.declared.Firmware.{Firmware}
+use Rattle.request.specs.Record.{powerOnFirmware, soundFirmware}
+use Rattle.firmware.specs.declared.RequestReply.{RequestReply}
+use Rattle.firmware.specs.declared.RequestReply.the-variants as request
+use Rattle.firmware.specs.Answer.{Handled, handled}
+use Rattle.model.specs.declared.Event.{Event}
+use Rattle.model.specs.declared.Checked.{Checked}
+use Rattle.model.specs.declared.Checked.the-variants.{Accepted, Refused}
+use Rattle.event_answer.specs.declared.EventReply.{EventReply}
+use Rattle.event_answer.specs.declared.EventReply.the-variants as reply
+use Rattle.model.specs.Call.{Call, transfer, event, Answer, refused, answered, check, callTo, answerOf, runTo}
+use Rattle.rules.specs.Event.{max3420e}
+use Rattle.board.specs.declared.Board.{Board}
+use Rattle.chip.specs.Pin.{pinOf}
+use Rattle.spi.specs.Transfer.{transferReplyOf}
+use Rattle.bus.specs.EventCall.{eventReplyOf}
+use Rattle.board.specs.declared.BoardTransfer.{BoardTransfer}
+use Rattle.board.specs.declared.BoardEvent.{BoardEvent}
+use Rattle.board.specs.declared.BoardStep.{BoardStep}
+use Rattle.board.specs.declared.StepReply.{StepReply}
+use Rattle.board.specs.declared.StepReply.the-variants as step
+use Rattle.board.specs.Step.{setupRead, served, sudav, stepCalls}
+
+abbrev pub powerOnBoard : Board
+powerOnBoard = record { chip = powerOnChip; firmware = powerOnFirmware }
+
+abbrev pub soundBoard : Board → Bool
+soundBoard b = soundChip (b .chip) && soundFirmware (b .firmware)
+
+-- a transfer or an event, as the chip's; or the step, lent so many bytes for its reply
+pub data BoardCall : Type 0 where
+  onChip : Call → BoardCall
+  steps : (room : ℕ) → BoardCall
+
+-- ---- a transfer or an event: refusal 1 looks at both records (decision 10)
+
+abbrev pub boardAnswer : Board → Call → Answer
+boardAnswer b k = cond (soundFirmware (b .firmware)) (answerOf max3420e (b .chip) k) (refused Unsound)
+
+-- power-on and a bus reset start that is seen put the firmware's record back: both are answered done
+abbrev pub isDone : EventReply → Bool
+isDone (reply.Refused r) = false
+isDone reply.Done = true
+isDone reply.Silence = false
+isDone reply.Ack = false
+isDone reply.Nak = false
+isDone reply.Stall = false
+isDone (reply.Data0 n) = false
+isDone (reply.Data1 n) = false
+
+abbrev pub startsAnew : Event → Bool
+startsAnew e = eqb (e .code) 1 || eqb (e .code) 6
+
+abbrev pub firmwareFor : Firmware → Event → EventReply → Firmware
+firmwareFor f e a = cond (startsAnew e && isDone a) powerOnFirmware f
+
+abbrev pub firmwareAt : Firmware → Call → Answer → Firmware
+firmwareAt f (transfer bytes room) a = f
+firmwareAt f (event e payload room) a = firmwareFor f e (eventReplyOf a)
+
+-- ---- the step: 1 if either record is not sound, 4 for a buffer under 64 bytes whatever SUDAVIRQ is (decision 9)
+
+abbrev pub stepChecked : Board → ℕ → Checked
+stepChecked b room = check ((not (soundBoard b), Unsound) ∷ (ltb room 64, ShortBuffer) ∷ [])
+
+-- it replies as the firmware does
+abbrev pub repliedStep : RequestReply → StepReply
+repliedStep (request.Refused r) = step.Refused r
+repliedStep request.Stall = step.Stall
+repliedStep request.Ack = step.Ack
+repliedStep (request.Data n) = step.Data n
+
+abbrev pub stepReplyOf : Board → Checked → StepReply
+stepReplyOf b Accepted = cond (sudav (b .chip)) (repliedStep (served (b .chip) (b .firmware) .answer .reply)) step.Idle
+stepReplyOf b (Refused r) = step.Refused r
+
+abbrev pub stepFirmware : Board → Checked → Firmware
+stepFirmware b Accepted = cond (sudav (b .chip)) (served (b .chip) (b .firmware) .answer .firmware) (b .firmware)
+stepFirmware b (Refused r) = b .firmware
+
+abbrev pub stepBuffer : Board → Checked → List ℕ → List ℕ
+stepBuffer b Accepted buffer = cond (sudav (b .chip)) (handled (setupRead (b .chip)) (b .firmware) buffer .buffer) buffer
+stepBuffer b (Refused r) buffer = buffer
+
+abbrev pub checkedCalls : Board → Checked → List Call
+checkedCalls b Accepted = stepCalls (b .chip) (b .firmware)
+checkedCalls b (Refused r) = []
+
+-- ---- any call: the chip calls that it makes, one by one, and both records after it
+
+abbrev pub chipCalls : Board → BoardCall → List Call
+chipCalls b (onChip k) = cond (soundFirmware (b .firmware)) (k ∷ []) []
+chipCalls b (steps room) = checkedCalls b (stepChecked b room)
+
+abbrev pub firmwareTo : Board → BoardCall → Firmware
+firmwareTo b (onChip k) = firmwareAt (b .firmware) k (boardAnswer b k)
+firmwareTo b (steps room) = stepFirmware b (stepChecked b room)
+
+unfoldable pub boardTo : Board → BoardCall → Board
+boardTo b k = record { chip = runTo max3420e (b .chip) (chipCalls b k); firmware = firmwareTo b k }
+
+-- ---- a list of calls
+
+unfoldable pub boardRunTo : Board → List BoardCall → Board
+boardRunTo b [] = b
+boardRunTo b (k ∷ ks) = boardRunTo (boardTo b k) ks
+
+-- and all chip calls that it makes
+unfoldable pub allChipCalls : Board → List BoardCall → List Call
+allChipCalls b [] = []
+allChipCalls b (k ∷ ks) = chipCalls b k ++ allChipCalls (boardTo b k) ks
+
+-- ---- numbers of the step's reply
+
+-- the number of refusal; 0 is none
+abbrev pub stepRefusal : StepReply → ℕ
+stepRefusal (step.Refused r) = refusalNumber r
+stepRefusal step.Idle = 0
+stepRefusal step.Stall = 0
+stepRefusal step.Ack = 0
+stepRefusal (step.Data n) = 0
+
+-- 0 idle, or refused; 1 stall, 2 ack, 3 data
+abbrev pub stepKind : StepReply → ℕ
+stepKind (step.Refused r) = 0
+stepKind step.Idle = 0
+stepKind step.Stall = 1
+stepKind step.Ack = 2
+stepKind (step.Data n) = 3
+
+abbrev pub stepCount : StepReply → ℕ
+stepCount (step.Refused r) = 0
+stepCount step.Idle = 0
+stepCount step.Stall = 0
+stepCount step.Ack = 0
+stepCount (step.Data n) = n
+
+-- ---- the whole answer: both records, the reply, and the pin of the chip's record handed back
+
+abbrev pub steppedWith : Board → StepReply → BoardStep
+steppedWith b r = record { board = b; reply = r; pin = pinOf (b .chip .registers) }
+
+abbrev pub boardTransfer : Board → Call → BoardTransfer
+boardTransfer b k =
+    record { board = boardTo b (onChip k); reply = transferReplyOf (boardAnswer b k); pin = pinOf (boardTo b (onChip k) .chip .registers) }
+
+abbrev pub boardEvent : Board → Call → BoardEvent
+boardEvent b k =
+    record { board = boardTo b (onChip k); reply = eventReplyOf (boardAnswer b k); pin = pinOf (boardTo b (onChip k) .chip .registers) }
+
+abbrev pub boardStep : Board → ℕ → BoardStep
+boardStep b room =
+    record { board = boardTo b (steps room); reply = stepReplyOf b (stepChecked b room); pin = pinOf (boardTo b (steps room) .chip .registers) }

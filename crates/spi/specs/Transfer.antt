@@ -1,0 +1,45 @@
+-- What a transfer hands back, from the answer of the model and the record after the call (document 01, "The SPI side" and
+-- "Numbers of refusal").
+use mathlib.Core.List.{List}
+use Prim.Native.Nat.{ℕ}
+use lib.ListN.{length}
+use Rattle.refusal.specs.Number.{refusalNumber}
+use Rattle.chip.specs.declared.Chip.{Chip}
+use Rattle.chip.specs.Pin.{pinOf}
+use Rattle.model.specs.declared.Checked.{Checked}
+use Rattle.model.specs.declared.Checked.the-variants.{Accepted, Refused}
+use Rattle.model.specs.Reply.{replyBytes}
+use Rattle.model.specs.Call.{Call, Answer, refused, answered, callTo, answerOf}
+use Rattle.rules.specs.Event.{max3420e}
+use Rattle.spi.specs.declared.TransferReply.{TransferReply}
+use Rattle.spi.specs.declared.TransferReply.the-variants as reply
+use Rattle.spi.specs.declared.TransferAnswer.{TransferAnswer}
+
+-- the refusal, or how many bytes the reply counts
+abbrev pub transferReplyOf : Answer → TransferReply
+transferReplyOf (refused r) = reply.Refused r
+transferReplyOf (answered a) = reply.Transferred (length (replyBytes a))
+
+-- the pin is that of the record handed back
+abbrev pub transferAnswerWith : Chip → Answer → TransferAnswer
+transferAnswerWith after a = record { chip = after; reply = transferReplyOf a; pin = pinOf (after .registers) }
+
+abbrev pub transferAnswer : Chip → Call → TransferAnswer
+transferAnswer c k = transferAnswerWith (callTo max3420e c k) (answerOf max3420e c k)
+
+-- ---- numbers
+
+-- the number of refusal; 0 is none
+abbrev pub transferRefusal : TransferReply → ℕ
+transferRefusal (reply.Refused r) = refusalNumber r
+transferRefusal (reply.Transferred n) = 0
+
+-- how many bytes of the lent buffer are the reply
+abbrev pub transferCount : TransferReply → ℕ
+transferCount (reply.Refused r) = 0
+transferCount (reply.Transferred n) = n
+
+-- the reply is as long as the transfer
+abbrev pub transferredCount : Checked → ℕ → ℕ
+transferredCount Accepted n = n
+transferredCount (Refused r) n = 0

@@ -1,0 +1,246 @@
+// One SPI transfer: the command byte, then the data bytes (document 01, "The SPI side").
+use chip::Chip;
+use chip::Endpoint0;
+use chip::Endpoint2;
+use chip::Endpoint3;
+use chip::Pin;
+use chip::Registers;
+use model::Checked;
+use refusal::Refusal;
+ghost use mathlib.Core.Path.{_≡_};
+ghost use mathlib.Core.Bool.{true, false, cond};
+ghost use mathlib.Core.List.{_++_};
+ghost use Prim.Native.Nat.{_<_, _≤_};
+ghost use lib.ListN.{length, take, drop};
+ghost use Rattle.bits.specs.Bit.{raised};
+ghost use Rattle.chip.specs.Mask.{ackstat};
+ghost use Rattle.chip.specs.Sound.{soundChip};
+ghost use Rattle.chip.specs.Set.{setRegisters};
+ghost use Rattle.model.specs.Reply.{lent};
+ghost use Rattle.model.specs.Spi.{commandAcknowledges, burstTo, burstOf, transferTo, transferOf};
+ghost use Rattle.model.specs.Call.{Call, transferGrounds, check, checked, checkedNumber, answerOf, bufferAfter};
+ghost use Rattle.rules.specs.Spi.{statusByte, max3420eSpi};
+ghost use Rattle.rules.specs.Event.{max3420e};
+ghost use Rattle.spi.specs.Fifo.{ep0Spi, ep2Spi, ep3Spi};
+ghost use Rattle.spi.specs.Transfer.{transferAnswer, transferRefusal, transferCount, transferredCount};
+
+// Why a transfer is refused, or how many bytes of the lent buffer are its reply.
+pub enum TransferReply {
+    Refused(Refusal),
+    Transferred(u16),
+}
+
+pub struct TransferAnswer {
+    pub chip: Chip,
+    pub reply: TransferReply,
+    pub pin: Pin,
+}
+
+fn check(chip: Chip, n: usize, room: usize) -> Checked
+    ensures { λ r. ⌜ r ≡ check (transferGrounds (soundChip chip) n room) ⌝ }
+{
+    if chip.is_sound() {
+        if n == 0 {
+            return Checked::Refused(Refusal::NoCommand);
+        }
+        if Chip::TRANSFER < n {
+            return Checked::Refused(Refusal::LongTransfer);
+        }
+        if room < n {
+            return Checked::Refused(Refusal::ShortBuffer);
+        }
+        return Checked::Accepted;
+    }
+    Checked::Refused(Refusal::Unsound)
+}
+
+// Reply byte 0.
+fn status_byte(registers: Registers) -> u8
+    ensures { λ r. ⌜ ((c : Chip) → r ≡ statusByte (setRegisters registers c)) ⌝ }
+{
+    if registers.pinctl & Chip::FDUPSPI != 0 {
+        return (registers.usbirq & Chip::STATUS_IRQS) * 8 | (registers.epirq & Chip::EPIRQ_BITS);
+    }
+    0
+}
+
+// R9 after the command byte, whose bit 0 sets ACKSTAT.
+fn acknowledged(epstalls: u8, command: u8) -> u8
+    ensures { λ r. ⌜ r ≡ cond (commandAcknowledges command) (raised ackstat epstalls) epstalls ⌝ }
+{
+    if command & 0x01 != 0 {
+        return epstalls | Chip::ACKSTAT;
+    }
+    epstalls
+}
+
+// The data bytes of a write to R0, on its endpoint.
+fn write_ep0(endpoint: Endpoint0, dav: bool, bytes: &[u8], reply: &mut [u8]) -> Endpoint0
+    requires { ⌜ (0 < length (now bytes)) × (length (now bytes) ≤ length (now reply)) ⌝ }
+    ensures { λ r. ⌜ (r ≡ burstTo (ep0Spi dav) endpoint true 0 (drop 1 (now (bytes .entry))))
+        × (now (reply .exit) ≡ take 1 (now (reply .entry)) ++ burstOf (ep0Spi dav) endpoint true 0 (drop 1 (now (bytes .entry)))
+        ++ drop (length (now (bytes .entry))) (now (reply .entry))) ⌝ }
+{
+    let mut e = endpoint;
+    let mut i = 1;
+    while i < bytes.len() {
+        e = fifos::store_ep0(e, e.armed | dav, bytes[i]);
+        reply[i] = 0;
+        i += 1;
+    }
+    e
+}
+
+// The data bytes of a write to R2, on its endpoint.
+fn write_ep2(endpoint: Endpoint2, bytes: &[u8], reply: &mut [u8]) -> Endpoint2
+    requires { ⌜ (0 < length (now bytes)) × (length (now bytes) ≤ length (now reply)) ⌝ }
+    ensures { λ r. ⌜ (r ≡ burstTo ep2Spi endpoint true 2 (drop 1 (now (bytes .entry))))
+        × (now (reply .exit) ≡ take 1 (now (reply .entry)) ++ burstOf ep2Spi endpoint true 2 (drop 1 (now (bytes .entry)))
+        ++ drop (length (now (bytes .entry))) (now (reply .entry))) ⌝ }
+{
+    let mut e = endpoint;
+    let mut i = 1;
+    while i < bytes.len() {
+        e = fifos::store_ep2(e, bytes[i]);
+        reply[i] = 0;
+        i += 1;
+    }
+    e
+}
+
+// The data bytes of a write to R3, on its endpoint.
+fn write_ep3(endpoint: Endpoint3, bytes: &[u8], reply: &mut [u8]) -> Endpoint3
+    requires { ⌜ (0 < length (now bytes)) × (length (now bytes) ≤ length (now reply)) ⌝ }
+    ensures { λ r. ⌜ (r ≡ burstTo ep3Spi endpoint true 3 (drop 1 (now (bytes .entry))))
+        × (now (reply .exit) ≡ take 1 (now (reply .entry)) ++ burstOf ep3Spi endpoint true 3 (drop 1 (now (bytes .entry)))
+        ++ drop (length (now (bytes .entry))) (now (reply .entry))) ⌝ }
+{
+    let mut e = endpoint;
+    let mut i = 1;
+    while i < bytes.len() {
+        e = fifos::store_ep3(e, bytes[i]);
+        reply[i] = 0;
+        i += 1;
+    }
+    e
+}
+
+// The data bytes of a write from a control register on, one after the other.
+fn write_controls(chip: Chip, register: u8, bytes: &[u8], reply: &mut [u8]) -> Chip
+    requires { ⌜ (0 < length (now bytes)) × (length (now bytes) ≤ length (now reply)) ⌝ }
+    ensures { λ r. ⌜ (r ≡ burstTo max3420eSpi chip true register (drop 1 (now (bytes .entry))))
+        × (now (reply .exit) ≡ take 1 (now (reply .entry)) ++ burstOf max3420eSpi chip true register (drop 1 (now (bytes .entry)))
+        ++ drop (length (now (bytes .entry))) (now (reply .entry))) ⌝ }
+{
+    let mut c = chip;
+    let mut selected = register;
+    let mut i = 1;
+    while i < bytes.len() {
+        c = registers::write_register(c, selected, bytes[i]);
+        reply[i] = 0;
+        selected = registers::step_register(selected);
+        i += 1;
+    }
+    c
+}
+
+// The data bytes of a write, a FIFO on its endpoint.
+fn write_burst(mut chip: Chip, register: u8, bytes: &[u8], reply: &mut [u8]) -> Chip
+    requires { ⌜ (0 < length (now bytes)) × (length (now bytes) ≤ length (now reply)) ⌝ }
+    ensures { λ r. ⌜ (r ≡ burstTo max3420eSpi chip true register (drop 1 (now (bytes .entry))))
+        × (now (reply .exit) ≡ take 1 (now (reply .entry)) ++ burstOf max3420eSpi chip true register (drop 1 (now (bytes .entry)))
+        ++ drop (length (now (bytes .entry))) (now (reply .entry))) ⌝ }
+{
+    match register {
+        0 => {
+            let dav = chip.registers.epirq & Chip::OUT0DAVIRQ != 0;
+            let endpoint = write_ep0(chip.ep0, dav, bytes, reply);
+            chip.ep0 = endpoint;
+            chip
+        }
+        2 => {
+            let endpoint = write_ep2(chip.ep2, bytes, reply);
+            chip.ep2 = endpoint;
+            chip
+        }
+        3 => {
+            let endpoint = write_ep3(chip.ep3, bytes, reply);
+            chip.ep3 = endpoint;
+            chip
+        }
+        _ => write_controls(chip, register, bytes, reply),
+    }
+}
+
+// The bytes of a read.
+fn read_burst(chip: Chip, register: u8, bytes: &[u8], reply: &mut [u8]) -> Chip
+    requires { ⌜ (0 < length (now bytes)) × (length (now bytes) ≤ length (now reply)) ⌝ }
+    ensures { λ r. ⌜ (r ≡ burstTo max3420eSpi chip false register (drop 1 (now (bytes .entry))))
+        × (now (reply .exit) ≡ take 1 (now (reply .entry)) ++ burstOf max3420eSpi chip false register (drop 1 (now (bytes .entry)))
+        ++ drop (length (now (bytes .entry))) (now (reply .entry))) ⌝ }
+{
+    let mut c = chip;
+    let mut selected = register;
+    let end = bytes.len();
+    let mut i = 1;
+    while i < end {
+        reply[i] = registers::read_register(c, selected);
+        c = registers::move_register(c, selected);
+        selected = registers::step_register(selected);
+        i += 1;
+    }
+    c
+}
+
+// The data bytes of a transfer.
+fn burst(chip: Chip, writes: bool, register: u8, bytes: &[u8], reply: &mut [u8]) -> Chip
+    requires { ⌜ (0 < length (now bytes)) × (length (now bytes) ≤ length (now reply)) ⌝ }
+    ensures { λ r. ⌜ (r ≡ burstTo max3420eSpi chip writes register (drop 1 (now (bytes .entry))))
+        × (now (reply .exit) ≡ take 1 (now (reply .entry)) ++ burstOf max3420eSpi chip writes register (drop 1 (now (bytes .entry)))
+        ++ drop (length (now (bytes .entry))) (now (reply .entry))) ⌝ }
+{
+    if writes {
+        return write_burst(chip, register, bytes, reply);
+    }
+    read_burst(chip, register, bytes, reply)
+}
+
+// A transfer that is not refused.
+fn run(mut chip: Chip, bytes: &[u8], reply: &mut [u8]) -> Chip
+    requires { ⌜ (0 < length (now bytes)) × (length (now bytes) ≤ length (now reply)) ⌝ }
+    ensures { λ r. ⌜ (r ≡ transferTo max3420eSpi chip (now (bytes .entry)))
+        × (now (reply .exit) ≡ lent (transferOf max3420eSpi chip (now (bytes .entry))) (now (reply .entry))) ⌝ }
+{
+    let command = bytes[0];
+    let before = chip.registers;
+    let epstalls = acknowledged(before.epstalls, command);
+    chip.registers.epstalls = epstalls;
+    let after = burst(chip, command & 0x02 != 0, command / 8, bytes, reply);
+    reply[0] = status_byte(before);
+    after
+}
+
+pub fn transfer(chip: Chip, bytes: &[u8], reply: &mut [u8]) -> TransferAnswer
+    ensures { λ r. ⌜ (r ≡ transferAnswer chip (Call.transfer (now (bytes .entry)) (length (now (reply .entry)))))
+        × (now (reply .exit)
+        ≡ bufferAfter (answerOf max3420e chip (Call.transfer (now (bytes .entry)) (length (now (reply .entry))))) (now (reply .entry)))
+        × (transferRefusal (r .reply) ≡ checkedNumber (checked max3420e chip (Call.transfer (now (bytes .entry)) (length (now (reply .entry))))))
+        × (transferCount (r .reply)
+        ≡ transferredCount (checked max3420e chip (Call.transfer (now (bytes .entry)) (length (now (reply .entry))))) (length (now (bytes .entry)))) ⌝ }
+{
+    match check(chip, bytes.len(), reply.len()) {
+        Checked::Refused(refusal) => TransferAnswer {
+            chip,
+            reply: TransferReply::Refused(refusal),
+            pin: chip.registers.pin(),
+        },
+        Checked::Accepted => {
+            let after = run(chip, bytes, reply);
+            TransferAnswer {
+                chip: after,
+                reply: TransferReply::Transferred(bytes.len() as u16),
+                pin: after.registers.pin(),
+            }
+        }
+    }
+}
