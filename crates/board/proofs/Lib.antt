@@ -2,3 +2,4 @@ pub mod Setup
 pub mod Theorem
 pub mod Enumeration
 pub mod Message
+pub mod Made

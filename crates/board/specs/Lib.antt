@@ -1,3 +1,4 @@
 pub mod Step
 pub mod Board
 pub mod Enumeration
+pub mod Made
