@@ -3,3 +3,4 @@ pub mod Theorem
 pub mod Enumeration
 pub mod Message
 pub mod Made
+pub mod Numbers

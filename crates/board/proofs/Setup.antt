@@ -49,7 +49,8 @@ served-answer decision.Stall w f xs ys = refl
 served-answer (decision.Send d) w f xs ys = refl
 served-answer (decision.Accept next e) w f xs ys = refl
 
-pub handled-lent : (setup : List ℕ) (f : Firmware) (xs ys : List ℕ) → length setup ≡ 8 → soundFirmware f ≡ true → 64 ≤ length xs → 64 ≤ length ys
+pub handled-lent : (setup : List ℕ) (f : Firmware) (xs ys : List ℕ) → length setup ≡ 8 → soundFirmware f ≡ true → 64 ≤ length xs
+    → 64 ≤ length ys
     → handled setup f xs .answer ≡ handled setup f ys .answer
 unfolding handled servedOf
 handled-lent setup f xs ys eight sound hx hy =
@@ -57,10 +58,13 @@ handled-lent setup f xs ys eight sound hx hy =
     (served-answer (decisionOf (requestOf setup) f) (requestOf setup .wlength) f xs ys)
 
 -- the firmware never refuses a step
-pub served-accepted : (c : Chip) (f : Firmware) (r : Refusal) → soundFirmware f ≡ true → served c f .answer .reply ≡ Refused r → requestRefusal (Refused r) ≡ 0
-served-accepted c f r sound e =
-    ap requestRefusal (sym e) ∙ handled-numbers (setupRead c) f (replicate 64 0) .refusal
-    ∙ rw (sound, eq-eqb (length (setupRead c)) 8 (setup-length c))
+pub firmware-accepts : (c : Chip) (f : Firmware) → soundFirmware f ≡ true → requestRefusal (served c f .answer .reply) ≡ 0
+firmware-accepts c f sound =
+    handled-numbers (setupRead c) f (replicate 64 0) .refusal ∙ rw (sound, eq-eqb (length (setupRead c)) 8 (setup-length c))
+
+pub served-accepted : (c : Chip) (f : Firmware) (r : Refusal) → soundFirmware f ≡ true → served c f .answer .reply ≡ Refused r
+    → requestRefusal (Refused r) ≡ 0
+served-accepted c f r sound e = ap requestRefusal (sym e) ∙ firmware-accepts c f sound
 
 -- ---- what the code lends and gets
 
@@ -84,7 +88,8 @@ decision-same (decision.Send d) w r9 r10 f xs ys =
     (length-take-le n (dataBytes d) (min-le-right w (length (dataBytes d))))
 decision-same (decision.Accept next e) w r9 r10 f xs ys = refl
 
-pub serves-lent : (setup : List ℕ) (f : Firmware) (xs ys : List ℕ) (r9 r10 : ℕ) → length setup ≡ 8 → soundFirmware f ≡ true → 64 ≤ length xs → 64 ≤ length ys
+pub serves-lent : (setup : List ℕ) (f : Firmware) (xs ys : List ℕ) (r9 r10 : ℕ) → length setup ≡ 8 → soundFirmware f ≡ true
+    → 64 ≤ length xs → 64 ≤ length ys
     → serves (handled setup f xs .answer .reply) (handled setup f xs .answer .endpoints) (handled setup f xs .buffer) r9 r10
     ≡ serves (handled setup f ys .answer .reply) (handled setup f ys .answer .endpoints) (handled setup f ys .buffer) r9 r10
 unfolding handled servedOf

@@ -42,7 +42,8 @@ board-run b (k ∷ ks) =
 pub board-demand3 : (ks : List BoardCall)
     → Demand3 (bookOf max3420eLedger blank (history max3420e powerOnChip (allChipCalls powerOnBoard ks))) (boardRunTo powerOnBoard ks .chip)
 board-demand3 ks =
-    subst (Demand3 (bookOf max3420eLedger blank (history max3420e powerOnChip (allChipCalls powerOnBoard ks)))) (sym (board-run powerOnBoard ks))
+    subst (Demand3 (bookOf max3420eLedger blank (history max3420e powerOnChip (allChipCalls powerOnBoard ks))))
+    (sym (board-run powerOnBoard ks))
     (demand3 (allChipCalls powerOnBoard ks))
 
 -- ---- both records are sound
@@ -54,7 +55,8 @@ at-sound f (event e payload room) a s =
 
 step-sound : (b : Board) (v : Checked) → soundFirmware (b .firmware) ≡ true → soundFirmware (stepFirmware b v) ≡ true
 step-sound b Accepted s =
-    cond-elim (λ (g : Firmware). soundFirmware g ≡ true) (sudav (b .chip)) (λ _. answer-sound (setupRead (b .chip)) (b .firmware) (replicate 64 0) s) (λ _. s)
+    cond-elim (λ (g : Firmware). soundFirmware g ≡ true) (sudav (b .chip))
+    (λ _. answer-sound (setupRead (b .chip)) (b .firmware) (replicate 64 0) s) (λ _. s)
 step-sound b (Refused r) s = s
 
 firmware-sound : (b : Board) (k : BoardCall) → soundFirmware (b .firmware) ≡ true → soundFirmware (firmwareTo b k) ≡ true
@@ -76,4 +78,5 @@ pub board-reached-accepted : (ks : List BoardCall) (k : Call) → boardAnswer (b
 board-reached-accepted ks k e =
     reached-accepted (allChipCalls powerOnBoard ks) k
     (ap (λ (c : Chip). answerOf max3420e c k) (sym (board-run powerOnBoard ks))
-    ∙ sym (ap (λ (t : Bool). cond t (answerOf max3420e (boardRunTo powerOnBoard ks .chip) k) (refused Unsound)) (run-firmware powerOnBoard ks refl)) ∙ e)
+    ∙ sym (ap (λ (t : Bool). cond t (answerOf max3420e (boardRunTo powerOnBoard ks .chip) k) (refused Unsound))
+    (run-firmware powerOnBoard ks refl)) ∙ e)

@@ -14,13 +14,13 @@ use Rattle.request.specs.declared.Firmware.{Firmware}
 use Rattle.request.specs.Record.{powerOnFirmware, soundFirmware}
 use Rattle.firmware.specs.declared.RequestReply.{RequestReply}
 use Rattle.firmware.specs.declared.RequestReply.the-variants as request
-use Rattle.firmware.specs.Answer.{Handled, handled}
+use Rattle.firmware.specs.Answer.{Handled, handled, requestKind, requestCount}
 use Rattle.model.specs.declared.Event.{Event}
 use Rattle.model.specs.declared.Checked.{Checked}
 use Rattle.model.specs.declared.Checked.the-variants.{Accepted, Refused}
 use Rattle.event_answer.specs.declared.EventReply.{EventReply}
 use Rattle.event_answer.specs.declared.EventReply.the-variants as reply
-use Rattle.model.specs.Call.{Call, transfer, event, Answer, refused, answered, check, callTo, answerOf, runTo}
+use Rattle.model.specs.Call.{Call, transfer, event, Answer, refused, answered, check, checked, callTo, answerOf, runTo}
 use Rattle.rules.specs.Event.{max3420e}
 use Rattle.board.specs.declared.Board.{Board}
 use Rattle.chip.specs.Pin.{pinOf}
@@ -45,6 +45,9 @@ pub data BoardCall : Type 0 where
   steps : (room : ℕ) → BoardCall
 
 -- ---- a transfer or an event: refusal 1 looks at both records (decision 10)
+
+abbrev pub boardChecked : Board → Call → Checked
+boardChecked b k = cond (soundFirmware (b .firmware)) (checked max3420e (b .chip) k) (Refused Unsound)
 
 abbrev pub boardAnswer : Board → Call → Answer
 boardAnswer b k = cond (soundFirmware (b .firmware)) (answerOf max3420e (b .chip) k) (refused Unsound)
@@ -147,6 +150,15 @@ stepCount step.Stall = 0
 stepCount step.Ack = 0
 stepCount (step.Data n) = n
 
+-- what the firmware's reply makes them
+abbrev pub steppedKind : Board → Checked → ℕ
+steppedKind b Accepted = cond (sudav (b .chip)) (requestKind (served (b .chip) (b .firmware) .answer .reply)) 0
+steppedKind b (Refused r) = 0
+
+abbrev pub steppedCount : Board → Checked → ℕ
+steppedCount b Accepted = cond (sudav (b .chip)) (requestCount (served (b .chip) (b .firmware) .answer .reply)) 0
+steppedCount b (Refused r) = 0
+
 -- ---- the whole answer: both records, the reply, and the pin of the chip's record handed back
 
 abbrev pub steppedWith : Board → StepReply → BoardStep
@@ -162,4 +174,9 @@ boardEvent b k =
 
 abbrev pub boardStep : Board → ℕ → BoardStep
 boardStep b room =
-    record { board = boardTo b (steps room); reply = stepReplyOf b (stepChecked b room); pin = pinOf (boardTo b (steps room) .chip .registers) }
+    record {
+      board = boardTo b (steps room);
+      reply = stepReplyOf b (stepChecked b room);
+      pin = pinOf
+          (boardTo b (steps room) .chip .registers);
+    }

@@ -39,21 +39,49 @@ spi bytes = calls (transfer bytes 4096) (answered (transferred (replicate (lengt
 
 abbrev pub signals : ℕ → Reply → Play
 signals code a =
-    calls (event (record { code = code; pins = 0; address = 0; endpoint = 0; damaged = false; data1 = false; acknowledged = false }) [] 0) (answered a)
+    calls (event (record { code = code; pins = 0; address = 0; endpoint = 0; damaged = false; data1 = false; acknowledged = false }) [] 0)
+    (answered a)
 
 abbrev pub setupAt : ℕ → List ℕ → Play
 setupAt address vs =
-    calls (event (record { code = 10; pins = 0; address = address; endpoint = 0; damaged = false; data1 = false; acknowledged = false }) vs 0)
+    calls (event (record {
+      code = 10;
+      pins = 0;
+      address = address;
+      endpoint = 0;
+      damaged = false;
+      data1 = false;
+      acknowledged =
+          false;
+    }) vs 0)
     (answered ack)
 
 abbrev pub inAt : ℕ → ℕ → Reply → Play
 inAt address endpoint a =
-    calls (event (record { code = 12; pins = 0; address = address; endpoint = endpoint; damaged = false; data1 = false; acknowledged = true }) [] 64)
+    calls (event (record {
+      code = 12;
+      pins = 0;
+      address = address;
+      endpoint = endpoint;
+      damaged = false;
+      data1 = false;
+      acknowledged =
+          true;
+    }) [] 64)
     (answered a)
 
 abbrev pub statusOutAt : ℕ → Reply → Play
 statusOutAt address a =
-    calls (event (record { code = 11; pins = 0; address = address; endpoint = 0; damaged = false; data1 = true; acknowledged = false }) [] 0)
+    calls (event (record {
+      code = 11;
+      pins = 0;
+      address = address;
+      endpoint = 0;
+      damaged = false;
+      data1 = true;
+      acknowledged =
+          false;
+    }) [] 0)
     (answered a)
 
 -- ---- requests: SETUP, the board step, then the stages that the host sees
@@ -82,7 +110,8 @@ string i = reads 0x07 (descriptor 0x03 i 0xff) (getD strings i [])
 
 -- powered, stable, VBUS, connected; a bus reset
 abbrev pub connected : List Play
-connected = signals 1 done ∷ signals 2 done ∷ signals 3 done ∷ serves Idle [] ∷ spi (0x7a ∷ 0x08 ∷ []) ∷ signals 6 done ∷ signals 7 done ∷ []
+connected = signals 1 done ∷ signals 2 done ∷ signals 3 done ∷ serves Idle [] ∷ spi (0x7a ∷ 0x08 ∷ []) ∷ signals 6 done ∷ signals 7 done ∷
+    []
 
 -- the device descriptor, 8 bytes then 18; SET_ADDRESS 7 with its status stage; the configuration, 9 then 34; strings 0 to 3;
 -- SET_CONFIGURATION; the report descriptor
@@ -98,7 +127,8 @@ enumerated =
 
 -- then a packet at endpoint 3, armed by hand
 abbrev pub reported : List Play
-reported = enumerated ++ (spi (0x1a ∷ 0x01 ∷ 0x02 ∷ 0x03 ∷ []) ∷ spi (0x42 ∷ 0x03 ∷ []) ∷ inAt 0x07 3 (sent false (0x01 ∷ 0x02 ∷ 0x03 ∷ [])) ∷ [])
+reported = enumerated ++ (spi (0x1a ∷ 0x01 ∷ 0x02 ∷ 0x03 ∷ []) ∷ spi (0x42 ∷ 0x03 ∷ []) ∷ inAt 0x07 3
+    (sent false (0x01 ∷ 0x02 ∷ 0x03 ∷ [])) ∷ [])
 
 -- a halt of endpoint 3: its status tells it, a STALL of another request keeps it, halt off ends it and clears the toggle
 abbrev pub halted : List Play

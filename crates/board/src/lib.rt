@@ -15,11 +15,15 @@ ghost use lib.ListN.{length, take};
 ghost use mathlib.Core.List.{[], _∷_};
 ghost use Rattle.firmware.specs.Answer.{requestCount, handled};
 ghost use Rattle.request.specs.Record.{soundFirmware};
-ghost use Rattle.model.specs.Call.{Call, callTo, runTo, bufferAfter};
+ghost use Rattle.model.specs.Call.{Call, callTo, runTo, bufferAfter, checkedNumber};
+ghost use Rattle.spi.specs.Transfer.{transferRefusal, transferCount, transferredCount};
+ghost use Rattle.bus.specs.EventCall.{eventRefusal, eventPid, eventCount, answerPid, answerCount};
 ghost use Rattle.rules.specs.Event.{max3420e};
-ghost use Rattle.board.specs.Step.{sends, clearsSudav, readsSetup, setupAnswer, setupRead, served, setupCalls, stallByte, writesBoth, writesEndpoints, serves};
+ghost use Rattle.board.specs.Step.{sends, clearsSudav, readsSetup, setupAnswer, setupRead, served, setupCalls, stallByte};
+ghost use Rattle.board.specs.Step.{writesBoth, writesEndpoints, serves};
 ghost use Rattle.board.specs.Board.{powerOnBoard, soundBoard, boardAnswer, isDone, firmwareFor, repliedStep, stepChecked, stepBuffer};
-ghost use Rattle.board.specs.Board.{steppedWith, boardStep, boardTransfer, boardEvent};
+ghost use Rattle.board.specs.Board.{steppedWith, boardStep, boardTransfer, boardEvent, boardChecked};
+ghost use Rattle.board.specs.Board.{stepRefusal, stepKind, stepCount, steppedKind, steppedCount};
 
 pub struct Board {
     pub chip: Chip,
@@ -250,7 +254,10 @@ fn reply_of(reply: RequestReply) -> StepReply
 // The board step: serves a SETUP, if one waits.
 pub fn step(board: Board, reply: &mut [u8]) -> BoardStep
     ensures { λ r. ⌜ (r ≡ boardStep board (length (now (reply .entry))))
-        × (now (reply .exit) ≡ stepBuffer board (stepChecked board (length (now (reply .entry)))) (now (reply .entry))) ⌝ }
+        × (now (reply .exit) ≡ stepBuffer board (stepChecked board (length (now (reply .entry)))) (now (reply .entry)))
+        × (stepRefusal (r .reply) ≡ checkedNumber (stepChecked board (length (now (reply .entry)))))
+        × (stepKind (r .reply) ≡ steppedKind board (stepChecked board (length (now (reply .entry)))))
+        × (stepCount (r .reply) ≡ steppedCount board (stepChecked board (length (now (reply .entry))))) ⌝ }
 {
     if !board.is_sound() {
         return stepped(board, StepReply::Refused(Refusal::Unsound));
@@ -271,7 +278,12 @@ pub fn step(board: Board, reply: &mut [u8]) -> BoardStep
 pub fn transfer(board: Board, bytes: &[u8], reply: &mut [u8]) -> BoardTransfer
     ensures { λ r. ⌜ (r ≡ boardTransfer board (Call.transfer (now (bytes .entry)) (length (now (reply .entry)))))
         × (now (reply .exit)
-        ≡ bufferAfter (boardAnswer board (Call.transfer (now (bytes .entry)) (length (now (reply .entry))))) (now (reply .entry))) ⌝ }
+        ≡ bufferAfter (boardAnswer board (Call.transfer (now (bytes .entry)) (length (now (reply .entry))))) (now (reply .entry)))
+        × (transferRefusal (r .reply)
+        ≡ checkedNumber (boardChecked board (Call.transfer (now (bytes .entry)) (length (now (reply .entry))))))
+        × (transferCount (r .reply)
+        ≡ transferredCount (boardChecked board (Call.transfer (now (bytes .entry)) (length (now (reply .entry)))))
+        (length (now (bytes .entry)))) ⌝ }
 {
     let c = board.chip;
     let f = board.firmware;
@@ -324,7 +336,12 @@ fn firmware_at(firmware: Firmware, event: Event, reply: EventReply) -> Firmware
 pub fn event(board: Board, event: Event, payload: &[u8], reply: &mut [u8]) -> BoardEvent
     ensures { λ r. ⌜ (r ≡ boardEvent board (Call.event event (now (payload .entry)) (length (now (reply .entry)))))
         × (now (reply .exit)
-        ≡ bufferAfter (boardAnswer board (Call.event event (now (payload .entry)) (length (now (reply .entry))))) (now (reply .entry))) ⌝ }
+        ≡ bufferAfter (boardAnswer board (Call.event event (now (payload .entry)) (length (now (reply .entry))))) (now (reply .entry)))
+        × (eventRefusal (r .reply)
+        ≡ checkedNumber (boardChecked board (Call.event event (now (payload .entry)) (length (now (reply .entry))))))
+        × (eventPid (r .reply) ≡ answerPid (boardAnswer board (Call.event event (now (payload .entry)) (length (now (reply .entry))))))
+        × (eventCount (r .reply)
+        ≡ answerCount (boardAnswer board (Call.event event (now (payload .entry)) (length (now (reply .entry)))))) ⌝ }
 {
     let c = board.chip;
     let f = board.firmware;

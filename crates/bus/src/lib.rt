@@ -19,7 +19,8 @@ ghost use Rattle.model.specs.Call.{eventGrounds, check, event as eventCall, che
 ghost use Rattle.rules.specs.Event.{raiseUsbirq, stableEvent, vbusOnEvent, vbusOffEvent, pinsEvent};
 ghost use Rattle.rules.specs.Event.{setupEvent, outEvent, inEvent, max3420e};
 ghost use Rattle.event_answer.specs.Answer.{outcomeAnswer, outcomeBuffer};
-ghost use Rattle.bus.specs.EventCall.{eventOutcome, eventAnswer, eventBuffer, eventRefusal, eventPid, eventCount, answerPid, answerCount};
+ghost use Rattle.bus.specs.EventCall.{eventOutcome, eventAnswer, eventBuffer, eventRefusal, eventPid, eventCount, answerPid};
+ghost use Rattle.bus.specs.EventCall.{answerCount};
 
 // ---- events 1 to 5: power and pins
 

@@ -160,26 +160,35 @@ fn ask_each(requests: &[u8], firmware: Firmware) -> Firmware {
     next
 }
 
+fn ask_under(heading: &[u8], requests: &[u8], firmware: Firmware) -> Firmware {
+    put(heading);
+    ask_each(requests, firmware)
+}
+
 fn ask_all(firmware: Firmware) -> Firmware {
     let mut next = firmware;
-    next = ask_each(&STATUS, next);
-    next = ask_each(&WAKEUP, next);
-    next = ask_each(&HALT, next);
-    next = ask_each(&DEVICE, next);
-    next = ask_each(&DESCRIPTORS, next);
-    next = ask_each(&STRINGS, next);
-    next = ask_each(&INTERFACE, next);
-    next = ask_each(&OTHERS, next);
-    next = ask_each(&CONFIGURATION, next);
+    next = ask_under(b"GET_STATUS\n", &STATUS, next);
+    next = ask_under(b"Remote wakeup\n", &WAKEUP, next);
+    next = ask_under(b"The halt of endpoint 83\n", &HALT, next);
+    next = ask_under(b"SET_ADDRESS, GET_CONFIGURATION\n", &DEVICE, next);
+    next = ask_under(
+        b"GET_DESCRIPTOR: device, configuration\n",
+        &DESCRIPTORS,
+        next,
+    );
+    next = ask_under(b"GET_DESCRIPTOR: strings\n", &STRINGS, next);
+    next = ask_under(b"The interface\n", &INTERFACE, next);
+    next = ask_under(b"Requests that are not served\n", &OTHERS, next);
+    next = ask_under(b"SET_CONFIGURATION\n", &CONFIGURATION, next);
     next
 }
 
 fn main() {
-    put(b"not configured\n");
+    put(b"== Not configured\n");
     let configured = ask_all(Firmware::power_on());
-    put(b"configured\n");
+    put(b"== Configured\n");
     ask_all(configured);
-    put(b"refused\n");
+    put(b"== Refused\n");
     let unsound = Firmware {
         configuration: 2,
         ..configured

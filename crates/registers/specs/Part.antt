@@ -9,7 +9,8 @@ use Rattle.bits.specs.Bit.{lowered, stored}
 use Rattle.chip.specs.Mask.{in2bavirq, out1davirq}
 use Rattle.chip.specs.Record.{bytesOf}
 use Rattle.chip.specs.declared.Registers.{Registers}
-use Rattle.rules.specs.Write.{WriteRule, ignored, writeEpstalls, writeEpien, writeUsbirq, writeUsbien, writeCpuctl, writePinctl, writeIopins}
+use Rattle.rules.specs.Write.{WriteRule, ignored, writeEpstalls, writeEpien, writeUsbirq, writeUsbien, writeCpuctl, writePinctl}
+use Rattle.rules.specs.Write.{writeIopins}
 
 -- IN2BAVIRQ clears only when two now wait
 abbrev pub armedTo : ℕ → ℕ → ℕ

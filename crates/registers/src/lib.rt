@@ -6,7 +6,8 @@ ghost use mathlib.Core.Path.{_≡_};
 ghost use Rattle.chip.specs.declared.Chip.{Chip};
 ghost use Rattle.chip.specs.Set.{setRegisters};
 ghost use Rattle.model.specs.Spi.{writeTo, readTo, readOf};
-ghost use Rattle.rules.specs.Write.{writeEp0fifo, writeEp2infifo, writeEp3infifo, writeEp0bc, writeEp2inbc, writeEp3inbc, writeClrtogs, writeEpirq, writeUsbctl};
+ghost use Rattle.rules.specs.Write.{writeEp0fifo, writeEp2infifo, writeEp3infifo, writeEp0bc, writeEp2inbc, writeEp3inbc};
+ghost use Rattle.rules.specs.Write.{writeClrtogs, writeEpirq, writeUsbctl};
 ghost use Rattle.rules.specs.Spi.{stepRegister, max3420eSpi};
 ghost use Rattle.registers.specs.Part.{armedTo, releasedTo, plainRule, plainByte};
 

@@ -114,8 +114,18 @@ silent =
     ∷ noChange («in» 1 true silence) ∷ noChange (out 2 false [] silence)
     ∷ noChange (answers (transaction 10 0 1) (replicate 8 0) silence) ∷ noChange (answers (transaction 11 1 0) [] silence)
     ∷ noChange (answers (transaction 12 1 2) [] silence)
-    ∷ noChange (answers (record { code = 10; pins = 0; address = 0; endpoint = 0; damaged = true; data1 = false; acknowledged = false }) (replicate 8 0) silence)
-    ∷ noChange (answers (record { code = 11; pins = 0; address = 0; endpoint = 1; damaged = true; data1 = true; acknowledged = false }) [] silence)
+    ∷ noChange (answers (record { code = 10; pins = 0; address = 0; endpoint = 0; damaged = true; data1 = false; acknowledged = false })
+    (replicate 8 0) silence)
+    ∷ noChange (answers (record {
+      code = 11;
+      pins = 0;
+      address = 0;
+      endpoint = 1;
+      damaged = true;
+      data1 = true;
+      acknowledged =
+          false;
+    }) [] silence)
     ∷ answers (record { code = 12; pins = 0; address = 0; endpoint = 2; damaged = true; data1 = false; acknowledged = false }) [] nak
     ∷ [])
 
@@ -238,7 +248,8 @@ bursts =
     on
     ++ (writes 0x12 0x31 ∷ writes 0x3a 0x01 ∷ writes 0x42 0x02 ∷ out 1 false (0x07 ∷ 0x08 ∷ 0x09 ∷ []) ack ∷ writes 0x2a 0x04
     ∷ spi (0x4a ∷ 0x11 ∷ 0x20 ∷ 0x00 ∷ 0x2a ∷ 0x00 ∷ 0x16 ∷ 0x58 ∷ 0x00 ∷ 0x03 ∷ 0xff ∷ 0xff ∷ 0x05 ∷ 0x0a ∷ []) (replicate 14 0)
-    ∷ burst 0x28 (0x04 ∷ 0x03 ∷ 0x01 ∷ 0x02 ∷ 0x11 ∷ 0x20 ∷ 0x0c ∷ 0x2a ∷ 0x01 ∷ 0x16 ∷ 0x58 ∷ 0x00 ∷ 0x03 ∷ 0x01 ∷ 0x00 ∷ 0x0a ∷ 0x0a ∷ 0x0a ∷ [])
+    ∷ burst 0x28 (0x04 ∷ 0x03 ∷ 0x01 ∷ 0x02 ∷ 0x11 ∷ 0x20 ∷ 0x0c ∷ 0x2a ∷ 0x01 ∷ 0x16 ∷ 0x58 ∷ 0x00 ∷ 0x03 ∷ 0x01 ∷ 0x00 ∷ 0x0a ∷ 0x0a ∷
+    0x0a ∷ [])
     ∷ spi (0xac ∷ 0 ∷ 0 ∷ []) (0 ∷ 0 ∷ 0 ∷ []) ∷ spi (0x4d ∷ 0 ∷ []) (0 ∷ 0x51 ∷ []) ∷ [])
 
 -- the 65th byte of a burst has no place, in any of the three FIFOs

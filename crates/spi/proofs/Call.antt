@@ -19,7 +19,8 @@ use Rattle.model.specs.declared.Checked.{Checked}
 use Rattle.model.specs.declared.Checked.the-variants.{Accepted, Refused}
 use Rattle.model.specs.Reply.{lent, replyBytes}
 use Rattle.model.specs.Spi.{Spi, commandRegister, commandWrites, commandAcknowledges, commandTo, burstTo, burstOf, transferTo, transferOf}
-use Rattle.model.specs.Call.{Call, transfer, transferGrounds, check, checked, checkedTo, checkedAnswer, checkedNumber, callTo, answerOf, bufferAfter}
+use Rattle.model.specs.Call.{Call, transfer, transferGrounds, check, checked, checkedTo, checkedAnswer, checkedNumber, callTo}
+use Rattle.model.specs.Call.{answerOf, bufferAfter}
 use Rattle.model.proofs.Loop.{burst-length}
 use Rattle.model.proofs.Refusals.{accepted-none}
 use Rattle.rules.specs.Spi.{max3420eSpi}

@@ -224,9 +224,11 @@ pub fn transfer(chip: Chip, bytes: &[u8], reply: &mut [u8]) -> TransferAnswer
     ensures { λ r. ⌜ (r ≡ transferAnswer chip (Call.transfer (now (bytes .entry)) (length (now (reply .entry)))))
         × (now (reply .exit)
         ≡ bufferAfter (answerOf max3420e chip (Call.transfer (now (bytes .entry)) (length (now (reply .entry))))) (now (reply .entry)))
-        × (transferRefusal (r .reply) ≡ checkedNumber (checked max3420e chip (Call.transfer (now (bytes .entry)) (length (now (reply .entry))))))
+        × (transferRefusal (r .reply)
+        ≡ checkedNumber (checked max3420e chip (Call.transfer (now (bytes .entry)) (length (now (reply .entry))))))
         × (transferCount (r .reply)
-        ≡ transferredCount (checked max3420e chip (Call.transfer (now (bytes .entry)) (length (now (reply .entry))))) (length (now (bytes .entry)))) ⌝ }
+        ≡ transferredCount (checked max3420e chip (Call.transfer (now (bytes .entry)) (length (now (reply .entry)))))
+        (length (now (bytes .entry)))) ⌝ }
 {
     match check(chip, bytes.len(), reply.len()) {
         Checked::Refused(refusal) => TransferAnswer {

@@ -27,9 +27,10 @@ pin-requires c κs = search needs
 returns : tie.Need-returns
 unfolding boardTo runTo
 returns c =
-    let w : c .before .before .before .is-sound .result ≡ false = not-true (c .before .before .before .is-sound .result) (c .before .before .if1 .taken) in
+    let w : c .before .before .before .is-sound .result ≡ false = not-true (c .before .before .before .is-sound .result)
+    (c .before .before .if1 .taken) in
     let a = c .before .before .before .before .before .before .before .before .args in
-    rw (← c .before .before .before .is-sound .ensures, w) (rw (c .pin .ensures, and-false (startsAnew (a .event))), refl)
+    rw (← c .before .before .before .is-sound .ensures, w) (rw (c .pin .ensures, and-false (startsAnew (a .event))), refl, refl, refl, refl)
 
 event-requires : tie.Need-event-requires
 event-requires c κs = search needs
@@ -48,9 +49,17 @@ returns-2 c =
     let a = t .before .before .before .before .before .before .before .before .args in
     let w : s .result ≡ true = not-false (s .result) (t .before .before .if1 .left) in
     rw (← s .ensures, w, c .firmware-at .ensures) (
-      ap (λ (x : EventAnswer). record { board = record { chip = x .chip; firmware = firmwareFor (a .board .firmware) (a .event) (x .reply) }; reply = x .reply; pin = x .pin })
+      ap
+          (λ (x : EventAnswer). record {
+            board = record { chip = x .chip; firmware = firmwareFor (a .board .firmware) (a .event) (x .reply) };
+            reply = x .reply;
+            pin = x .pin;
+          })
           (t .event .ensures .0 .0),
       t .event .ensures .0 .1,
+      t .event .ensures .1 .0,
+      t .event .ensures .1 .1,
+      t .event .ensures .1 .2,
     )
 
 pub event-spec : {M : Type 1} → statement M

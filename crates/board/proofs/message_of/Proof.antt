@@ -39,7 +39,8 @@ returns : tie.Need-returns
 returns c =
     let a = c .before .before .before .before .before .args in
     let same : a .n - 0 ≡ a .n = omega arith in
-    message-is (a .n) 0x02 (now (a .bytes)) (take (a .n - 0) (now (a .bytes))) (c .before .copy .last .1 .0) _ (ap (λ (k : ℕ). take k (now (a .bytes))) same)
+    message-is (a .n) 0x02 (now (a .bytes)) (take (a .n - 0) (now (a .bytes))) (c .before .copy .last .1 .0) _
+    (ap (λ (k : ℕ). take k (now (a .bytes))) same)
     (omega (arith, c .before .before .before .before .before .pre .0)) (c .before .copy .ensures .1)
 
 pub message-of-spec : {M : Type 1} → statement M

@@ -32,7 +32,8 @@ part-answer-start c = search needs
 
 part-answer-end : tie.Need-part-answer-end
 part-answer-end c =
-    let n : length (c .before .before .before .read-setup .result .reply) ≡ 9 = ap length (c .before .before .before .read-setup .ensures .1) ∙ answer-length _ in
+    let n : length (c .before .before .before .read-setup .result .reply) ≡ 9 = ap length
+    (c .before .before .before .read-setup .ensures .1) ∙ answer-length _ in
     omega arith
 
 answer-requires : tie.Need-answer-requires
@@ -40,7 +41,8 @@ answer-requires c κs = search needs
 
 serve-reply-requires : tie.Need-serve-reply-requires
 serve-reply-requires c κs = (
-  subst (λ (a : RequestAnswer). requestCount (a .reply) ≤ 64) (sym (c .before .before .before .before .answer .ensures .0)) (answer-fits _ _ _),
+  subst (λ (a : RequestAnswer). requestCount (a .reply) ≤ 64) (sym (c .before .before .before .before .answer .ensures .0))
+      (answer-fits _ _ _),
   search needs,
 )
 
@@ -60,11 +62,14 @@ returns c =
     ans .ensures .0 ∙ ap (λ (s : List ℕ). handled s (b .firmware) lent .answer) setup in
     let bytes : ans .last .1 .1 .0 ≡ handled (setupRead (b .chip)) (b .firmware) lent .buffer =
     ans .ensures .1 ∙ ap (λ (s : List ℕ). handled s (b .firmware) lent .buffer) setup in
-    let any = handled-lent (setupRead (b .chip)) (b .firmware) lent (replicate 64 0) (setup-length (b .chip)) (p .pre .0) (p .pre .1) (omega arith) in (
+    let any = handled-lent (setupRead (b .chip)) (b .firmware) lent (replicate 64 0) (setup-length (b .chip)) (p .pre .0) (p .pre .1)
+    (omega arith) in (
       c .serve-reply .ensures
           ∙ ap₂ (λ (x : Chip) (ks : List Call). runTo max3420e x ks) (read .ensures .0)
-          (ap₂ (λ (a : RequestAnswer) (vs : List ℕ). serves (a .reply) (a .endpoints) vs (b .chip .registers .epstalls) (b .chip .registers .clrtogs)) same bytes
-          ∙ serves-lent (setupRead (b .chip)) (b .firmware) lent (replicate 64 0) _ _ (setup-length (b .chip)) (p .pre .0) (p .pre .1) (omega arith)),
+          (ap₂ (λ (a : RequestAnswer) (vs : List ℕ). serves (a .reply) (a .endpoints) vs (b .chip .registers .epstalls)
+          (b .chip .registers .clrtogs)) same bytes
+          ∙ serves-lent (setupRead (b .chip)) (b .firmware) lent (replicate 64 0) _ _ (setup-length (b .chip)) (p .pre .0) (p .pre .1)
+          (omega arith)),
       ap (λ (a : RequestAnswer). a .firmware) (same ∙ any),
       ap (λ (a : RequestAnswer). a .reply) (same ∙ any),
       bytes,

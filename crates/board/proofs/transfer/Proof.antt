@@ -24,8 +24,9 @@ pin-requires c κs = search needs
 returns : tie.Need-returns
 unfolding boardTo runTo
 returns c =
-    let w : c .before .before .before .is-sound .result ≡ false = not-true (c .before .before .before .is-sound .result) (c .before .before .if1 .taken) in
-    rw (← c .before .before .before .is-sound .ensures, w) (rw (c .pin .ensures), refl)
+    let w : c .before .before .before .is-sound .result ≡ false = not-true (c .before .before .before .is-sound .result)
+    (c .before .before .if1 .taken) in
+    rw (← c .before .before .before .is-sound .ensures, w) (rw (c .pin .ensures), refl, refl, refl)
 
 transfer-requires : tie.Need-transfer-requires
 transfer-requires c κs = search needs
@@ -40,8 +41,13 @@ returns-2 c =
     let s = t .before .before .before .is-sound in
     let f = t .before .before .before .before .before .before .before .before .args .board .firmware in
     let w : s .result ≡ true = not-false (s .result) (t .before .before .if1 .left) in
-    rw (← s .ensures, w)
-    (ap (λ (a : TransferAnswer). record { board = record { chip = a .chip; firmware = f }; reply = a .reply; pin = a .pin }) (t .transfer .ensures .0), t .transfer .ensures .1)
+    rw (← s .ensures, w) (
+      ap (λ (a : TransferAnswer). record { board = record { chip = a .chip; firmware = f }; reply = a .reply; pin = a .pin })
+          (t .transfer .ensures .0),
+      t .transfer .ensures .1,
+      t .transfer .ensures .2,
+      t .transfer .ensures .3,
+    )
 
 pub transfer-spec : {M : Type 1} → statement M
 transfer-spec =

@@ -1,4 +1,4 @@
--- `requests::ask` is safe: what a reply counts lies within the buffer that was lent (`answer-within`).
+-- `chapter9::ask` is safe: what a reply counts lies within the buffer that was lent (`answer-within`).
 use borrow.Author.Needs.{needs}
 use Rattle.firmware.proofs.Laws.{answer-within}
 use Rattle.chapter9.proofs.ask.Statement.{statement}

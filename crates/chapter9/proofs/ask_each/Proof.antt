@@ -1,4 +1,4 @@
--- `requests::ask_each` is safe and ends: each part of eight bytes lies within the whole.
+-- `chapter9::ask_each` is safe and ends: each part of eight bytes lies within the whole.
 use mathlib.Core.Path.{_≡_}
 use Prim.Native.Nat.{_≤_, _-_, _/_}
 use borrow.Author.Needs.{needs}

@@ -1,4 +1,4 @@
--- `requests::put_bytes` is safe and ends: the index stays below the length.
+-- `chapter9::put_bytes` is safe and ends: the index stays below the length.
 use mathlib.Core.Path.{_≡_}
 use Prim.Native.Nat.{_≤_, _-_}
 use borrow.Author.Needs.{needs}

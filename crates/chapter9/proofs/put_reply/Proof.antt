@@ -1,4 +1,4 @@
--- `requests::put_reply` is safe: the bytes that a reply counts lie within the buffer, by its `requires`.
+-- `chapter9::put_reply` is safe: the bytes that a reply counts lie within the buffer, by its `requires`.
 use mathlib.Core.Path.{sym}
 use borrow.Author.Needs.{needs}
 use lib.Seq.{length-take-le}

@@ -42,11 +42,14 @@ returns c =
     let first = c .before .before .if1 in (
       c .answer-with .ensures
           ∙ ap₂ eventAnswerWith (c .before .in2-gone .ensures) (data-packet .ensures)
-          ∙ sent-gone ep2inak (a .chip .ep2 .toggle) (oldestPacket 2 (a .chip .ep2 .ring)) (in2Gone (a .chip)) (a .chip) (copy-oldest .result)
+          ∙ sent-gone ep2inak (a .chip .ep2 .toggle) (oldestPacket 2 (a .chip .ep2 .ring)) (in2Gone (a .chip)) (a .chip)
+          (copy-oldest .result)
           (in2Verdict (a .chip)) (sym (in2-verdict .ensures) ∙ told .given .1) (copy-oldest .ensures .0) (a .acknowledged) (first .taken),
       copy-oldest .ensures .1
-          ∙ (sent-buffer ep2inak (a .chip .ep2 .toggle) (oldestPacket 2 (a .chip .ep2 .ring)) (in2Gone (a .chip)) (a .chip) (copy-oldest .result)
-          (in2Verdict (a .chip)) (sym (in2-verdict .ensures) ∙ told .given .1) (copy-oldest .ensures .0) (a .acknowledged) (now (a .reply))),
+          ∙ (sent-buffer ep2inak (a .chip .ep2 .toggle) (oldestPacket 2 (a .chip .ep2 .ring)) (in2Gone (a .chip)) (a .chip)
+          (copy-oldest .result)
+          (in2Verdict (a .chip)) (sym (in2-verdict .ensures) ∙ told .given .1) (copy-oldest .ensures .0) (a .acknowledged)
+          (now (a .reply))),
     )
 
 answer-with-requires-2 : tie.Need-answer-with-requires-2
@@ -64,12 +67,15 @@ returns-2 c =
     let told = c .before .before .before .before .before .before .before .before .enum-told in (
       c .answer-with2 .ensures
           ∙ ap (eventAnswerWith (a .chip)) (data-packet .ensures)
-          ∙ sent-kept ep2inak (a .chip .ep2 .toggle) (oldestPacket 2 (a .chip .ep2 .ring)) (in2Gone (a .chip)) (a .chip) (copy-oldest .result)
+          ∙ sent-kept ep2inak (a .chip .ep2 .toggle) (oldestPacket 2 (a .chip .ep2 .ring)) (in2Gone (a .chip)) (a .chip)
+          (copy-oldest .result)
           (in2Verdict (a .chip)) (sym (in2-verdict .ensures) ∙ told .given .1) (copy-oldest .ensures .0) (a .acknowledged)
           (c .before .if1 .left),
       copy-oldest .ensures .1
-          ∙ (sent-buffer ep2inak (a .chip .ep2 .toggle) (oldestPacket 2 (a .chip .ep2 .ring)) (in2Gone (a .chip)) (a .chip) (copy-oldest .result)
-          (in2Verdict (a .chip)) (sym (in2-verdict .ensures) ∙ told .given .1) (copy-oldest .ensures .0) (a .acknowledged) (now (a .reply))),
+          ∙ (sent-buffer ep2inak (a .chip .ep2 .toggle) (oldestPacket 2 (a .chip .ep2 .ring)) (in2Gone (a .chip)) (a .chip)
+          (copy-oldest .result)
+          (in2Verdict (a .chip)) (sym (in2-verdict .ensures) ∙ told .given .1) (copy-oldest .ensures .0) (a .acknowledged)
+          (now (a .reply))),
     )
 
 send-none-requires : tie.Need-send-none-requires

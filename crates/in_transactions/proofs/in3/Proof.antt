@@ -84,7 +84,8 @@ returns-3 c =
     let a = c .before .before .before .before .args in
     rw (← in3-verdict .ensures) (
       c .send-none .ensures
-          ∙ unsent-answer ep3inak (sent (a .chip .ep3 .toggle) (take (a .chip .ep3 .count) (a .chip .ep3 .bytes))) (in3Gone (a .chip)) (a .chip)
+          ∙ unsent-answer ep3inak (sent (a .chip .ep3 .toggle) (take (a .chip .ep3 .count) (a .chip .ep3 .bytes))) (in3Gone (a .chip))
+          (a .chip)
           (a .acknowledged) (in3-verdict .result) (λ e. not-send (rw e at (c .before .match .keys2))),
       unsent-buffer ep3inak (sent (a .chip .ep3 .toggle) (take (a .chip .ep3 .count) (a .chip .ep3 .bytes))) (in3Gone (a .chip)) (a .chip)
           (a .acknowledged) (in3-verdict .result) (now (a .reply)) (λ e. not-send (rw e at (c .before .match .keys2))),

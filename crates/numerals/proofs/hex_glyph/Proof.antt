@@ -1,0 +1,20 @@
+-- `numerals::hex_glyph` meets its contract. The test is the definition's.
+use borrow.Author.Tests.{lt-ltb, le-ltb, le-leb, lt-leb, eq-eqb, ne-eqb}
+use borrow.Author.Needs.{needs}
+use Rattle.numerals.proofs.hex_glyph.Statement.{statement}
+use Rattle.numerals.proofs.hex_glyph.Tie as tie
+
+add-result : tie.Need-add-result
+add-result c = search needs
+
+add-result-2 : tie.Need-add-result-2
+add-result-2 c = search needs
+
+returns : tie.Need-returns
+returns c = rw (lt-ltb _ _ (c .if1 .taken))
+
+returns-2 : tie.Need-returns-2
+returns-2 c = rw (le-ltb _ _ (c .if1 .left))
+
+pub hex-glyph-spec : {M : Type 1} → statement M
+hex-glyph-spec = tie.close (tie.spec add-result add-result-2 returns returns-2)
