@@ -1,0 +1,71 @@
+-- Answers as C programs get them: records as `flat` has them, the reply and the pin as numbers.
+use Rattle.chip.specs.Pin.{pinOf, pinNumber}
+use Rattle.spi.specs.declared.TransferReply.{TransferReply}
+use Rattle.spi.specs.declared.TransferAnswer.{TransferAnswer}
+use Rattle.spi.specs.Transfer.{transferRefusal, transferCount}
+use Rattle.event_answer.specs.declared.EventReply.{EventReply}
+use Rattle.event_answer.specs.declared.EventAnswer.{EventAnswer}
+use Rattle.bus.specs.EventCall.{eventRefusal, eventPid, eventCount}
+use Rattle.board.specs.declared.StepReply.{StepReply}
+use Rattle.board.specs.declared.BoardStep.{BoardStep}
+use Rattle.board.specs.Board.{stepRefusal, stepKind, stepCount}
+use Rattle.flat.specs.declared.FlatChip.{FlatChip}
+use Rattle.flat.specs.declared.FlatFirmware.{FlatFirmware}
+use Rattle.flat.specs.Flat.{registersOf, flatChip, flatFirmware}
+use Rattle.capi.specs.declared.Numbers.{Numbers}
+use Rattle.capi.specs.declared.FlatAnswer.{FlatAnswer}
+use Rattle.capi.specs.declared.FlatBoardAnswer.{FlatBoardAnswer}
+
+-- ---- a reply in numbers
+
+-- a transfer is no packet on the bus: no PID
+abbrev pub transferNumbers : TransferReply → Numbers
+transferNumbers r = record { refusal = transferRefusal r; kind = 0; count = transferCount r }
+
+abbrev pub eventNumbers : EventReply → Numbers
+eventNumbers r = record { refusal = eventRefusal r; kind = eventPid r; count = eventCount r }
+
+abbrev pub stepNumbers : StepReply → Numbers
+stepNumbers r = record { refusal = stepRefusal r; kind = stepKind r; count = stepCount r }
+
+-- ---- whole answers
+
+unfoldable pub flatTransfer : TransferAnswer → FlatAnswer
+flatTransfer a =
+    record {
+      chip = flatChip (a .chip);
+      refusal = transferRefusal (a .reply);
+      pid = 0;
+      count = transferCount (a .reply);
+      pin = pinNumber (a .pin);
+    }
+
+unfoldable pub flatEvent : EventAnswer → FlatAnswer
+flatEvent a =
+    record {
+      chip = flatChip (a .chip);
+      refusal = eventRefusal (a .reply);
+      pid = eventPid (a .reply);
+      count = eventCount (a .reply);
+      pin = pinNumber (a .pin);
+    }
+
+unfoldable pub flatStep : BoardStep → FlatBoardAnswer
+flatStep a =
+    record {
+      chip = flatChip (a .board .chip);
+      firmware = flatFirmware (a .board .firmware);
+      refusal = stepRefusal (a .reply);
+      kind = stepKind (a .reply);
+      count = stepCount (a .reply);
+      pin = pinNumber (a .pin);
+    }
+
+-- ---- refusal 1, the records as given: a flag is neither 0 nor 1
+
+unfoldable pub unflagged : FlatChip → FlatAnswer
+unflagged c = record { chip = c; refusal = 1; pid = 0; count = 0; pin = pinNumber (pinOf (registersOf (c .registers))) }
+
+unfoldable pub unflaggedBoard : FlatChip → FlatFirmware → FlatBoardAnswer
+unflaggedBoard c f =
+    record { chip = c; firmware = f; refusal = 1; kind = 0; count = 0; pin = pinNumber (pinOf (registersOf (c .registers))) }

@@ -1,0 +1,11 @@
+use mathlib.Core.Path.{refl}
+use Rattle.flat.specs.Flat.{hasFirmwareFlags}
+use Rattle.flat.proofs.FlatFirmware.has_flags.Statement.{statement}
+use Rattle.flat.proofs.FlatFirmware.has_flags.Tie as tie
+
+returns : tie.Need-returns
+unfolding hasFirmwareFlags
+returns c = refl
+
+pub has-flags-spec : {M : Type 1} → statement M
+has-flags-spec = tie.close (tie.spec returns)

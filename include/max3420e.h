@@ -1,0 +1,200 @@
+/* The MAX3420E, a USB peripheral controller with an SPI interface, as a C library (libcapi.a).
+ *
+ * The chip is a record. Every call takes it by value and hands back the next one: keep one record per chip and store
+ * `answer.chip` after each call. The library keeps nothing and allocates nothing.
+ *
+ * A refused call (`refusal` is not 0) hands the records back unchanged and writes no byte of `reply`. Else just the
+ * first `count` bytes of `reply` are written. `bytes`, `payload` and `reply` are not null, point to as many bytes as is
+ * said, and do not overlap. Event codes, limits and refusals are those of docs/.
+ */
+#ifndef MAX3420E_H
+#define MAX3420E_H
+
+#include <stddef.h>
+#include <stdint.h>
+
+#ifdef __cplusplus
+extern "C" {
+#endif
+
+enum max3420e_limit {
+    MAX3420E_BUFFER = 64,     /* bytes of a packet, at most; the room that an IN and a board step want */
+    MAX3420E_SETUP = 8,       /* bytes of a SETUP */
+    MAX3420E_TRANSFER = 4096  /* bytes of a transfer, at most, the command byte among them */
+};
+
+/* Why a call is refused. The lowest number that applies is given. */
+enum max3420e_refusal {
+    MAX3420E_ACCEPTED = 0,
+    MAX3420E_UNSOUND = 1,       /* a record is not sound; a flag that is neither 0 nor 1 makes it so */
+    MAX3420E_NO_COMMAND = 2,    /* a transfer has no command byte */
+    MAX3420E_LONG_TRANSFER = 3, /* a transfer has over 4,096 bytes */
+    MAX3420E_SHORT_BUFFER = 4,  /* room is under the transfer's length, or under 64 for an IN or a board step */
+    MAX3420E_UNKNOWN_EVENT = 5, /* an event code is not one of those below */
+    MAX3420E_BAD_PAYLOAD = 6,   /* an OUT payload is over 64 bytes, or a SETUP payload is not 8 */
+    MAX3420E_BAD_ADDRESS = 7    /* a transaction's address is over 127, or its endpoint over 15 */
+};
+
+/* Event codes. What an event does not use is ignored. */
+enum max3420e_event_code {
+    MAX3420E_POWER_ON = 1,
+    MAX3420E_STABLE = 2,      /* the oscillator is stable */
+    MAX3420E_VBUS_ON = 3,
+    MAX3420E_VBUS_OFF = 4,
+    MAX3420E_PINS = 5,        /* input pins: the low four bits of `pins` */
+    MAX3420E_RESET_START = 6, /* bus reset */
+    MAX3420E_RESET_END = 7,
+    MAX3420E_SUSPEND = 8,
+    MAX3420E_ACTIVITY = 9,
+    MAX3420E_SETUP_TOKEN = 10, /* address, endpoint, damaged, payload */
+    MAX3420E_OUT_TOKEN = 11,   /* address, endpoint, damaged, data1, payload */
+    MAX3420E_IN_TOKEN = 12     /* address, endpoint, acknowledged (the host's ACK reaches the chip) */
+};
+
+/* `pid`: what the chip answers on the bus, as a PID byte. */
+enum max3420e_pid {
+    MAX3420E_SILENCE = 0x00, /* nothing; also the pid of a transfer and of events 1 to 9 */
+    MAX3420E_ACK = 0xD2,
+    MAX3420E_NAK = 0x5A,
+    MAX3420E_STALL = 0x1E,
+    MAX3420E_DATA0 = 0xC3,   /* the packet's bytes are in `reply` */
+    MAX3420E_DATA1 = 0x4B
+};
+
+/* `pin`: the level at which the INT pin rests after the call. */
+enum max3420e_pin {
+    MAX3420E_PIN_LOW = 0,
+    MAX3420E_PIN_HIGH = 1,
+    MAX3420E_PIN_OPEN = 2
+};
+
+/* `kind`: what the board's firmware did. */
+enum max3420e_kind {
+    MAX3420E_KIND_IDLE = 0,  /* no SETUP waits */
+    MAX3420E_KIND_STALL = 1,
+    MAX3420E_KIND_ACK = 2,   /* acknowledged without data */
+    MAX3420E_KIND_DATA = 3   /* sent the bytes that are in `reply` */
+};
+
+/* The two buffers of a double-buffered endpoint; buffer i stands at byte 64 * i. */
+typedef struct {
+    uint8_t bytes[128];
+    uint8_t counts[2]; /* bytes of each buffer's packet */
+    uint8_t oldest;    /* the buffer of the oldest waiting packet, or the next to be filled where none waits */
+    uint8_t waiting;   /* packets that wait, 0 to 2 */
+} max3420e_ring;
+
+/* Endpoint 0: one buffer for both directions, and SUDFIFO. A toggle is 1 for DATA1. */
+typedef struct {
+    uint8_t bytes[64];
+    uint8_t setup[8];
+    uint8_t count;     /* R5: the count last armed or received */
+    uint8_t armed;     /* flag */
+    uint8_t readpos;   /* of R0, 0 to 64 */
+    uint8_t writepos;  /* of R0, 0 to 64 */
+    uint8_t setuppos;  /* of R4, 0 to 8 */
+    uint8_t intoggle;  /* flag */
+    uint8_t outtoggle; /* flag */
+    uint8_t current;   /* flag: a SETUP was accepted since the last reset */
+} max3420e_endpoint0;
+
+/* Endpoint 1 OUT. */
+typedef struct {
+    max3420e_ring ring;
+    uint8_t readpos; /* of R1, 0 to 64 */
+    uint8_t toggle;  /* flag */
+} max3420e_endpoint1;
+
+/* Endpoint 2 IN. */
+typedef struct {
+    max3420e_ring ring;
+    uint8_t count;    /* R7: the count last armed */
+    uint8_t writepos; /* of R2, 0 to 64 */
+    uint8_t toggle;   /* flag */
+} max3420e_endpoint2;
+
+/* Endpoint 3 IN. */
+typedef struct {
+    uint8_t bytes[64];
+    uint8_t count;    /* R8: the count last armed */
+    uint8_t armed;    /* flag */
+    uint8_t writepos; /* of R3, 0 to 64 */
+    uint8_t toggle;   /* flag */
+} max3420e_endpoint3;
+
+/* R9 to R17, R19 and R20, by the maker's names. */
+typedef struct {
+    uint8_t epstalls;
+    uint8_t clrtogs;
+    uint8_t epirq;
+    uint8_t epien;
+    uint8_t usbirq;
+    uint8_t usbien;
+    uint8_t usbctl;
+    uint8_t cpuctl;
+    uint8_t pinctl;
+    uint8_t fnaddr;
+    uint8_t iopins;
+} max3420e_registers;
+
+/* What the chip is supplied with. */
+typedef struct {
+    uint8_t vbus;  /* flag: the VBUS comparator's level */
+    uint8_t oscok; /* flag: the oscillator is stable */
+} max3420e_power;
+
+typedef struct {
+    max3420e_endpoint0 ep0;
+    max3420e_endpoint1 ep1;
+    max3420e_endpoint2 ep2;
+    max3420e_endpoint3 ep3;
+    max3420e_registers registers;
+    max3420e_power power;
+} max3420e_chip;
+
+/* The record of the board's own firmware; all 0 at power-on and after a bus reset start that the chip sees. */
+typedef struct {
+    uint8_t configuration; /* 0 or 1 */
+    uint8_t wakeup;        /* flag: remote wakeup is enabled */
+    uint8_t halted;        /* flag: endpoint 3 is halted */
+} max3420e_firmware;
+
+typedef struct {
+    max3420e_chip chip;
+    uint8_t refusal; /* enum max3420e_refusal */
+    uint8_t pid;     /* enum max3420e_pid */
+    uint16_t count;  /* bytes written to `reply` */
+    uint8_t pin;     /* enum max3420e_pin */
+} max3420e_answer;
+
+typedef struct {
+    max3420e_chip chip;
+    max3420e_firmware firmware;
+    uint8_t refusal; /* enum max3420e_refusal */
+    uint8_t kind;    /* enum max3420e_kind */
+    uint16_t count;  /* bytes written to `reply` */
+    uint8_t pin;     /* enum max3420e_pin */
+} max3420e_board_answer;
+
+/* The record at power-on. */
+max3420e_chip max3420e_power_on(void);
+
+/* One SPI transfer, from SS low to SS high: `bytes[0]` is the command byte. As many bytes come back as are sent.
+ * Refusals 1 to 4. */
+max3420e_answer max3420e_transfer(max3420e_chip chip, const uint8_t *bytes, size_t length, uint8_t *reply, size_t room);
+
+/* One event (enum max3420e_event_code). `damaged`, `data1`, `acknowledged`: 0 is no, anything else yes.
+ * An IN writes the packet's bytes to `reply`. Refusals 1 and 4 to 7. */
+max3420e_answer max3420e_event(max3420e_chip chip, uint8_t code, uint8_t pins, uint8_t address, uint8_t endpoint,
+                               uint8_t damaged, uint8_t data1, uint8_t acknowledged,
+                               const uint8_t *payload, size_t length, uint8_t *reply, size_t room);
+
+/* The board's own firmware serves a SETUP, if one waits; `reply` gets the bytes it sends. Refusals 1 and 4.
+ * Use it instead of firmware of your own. */
+max3420e_board_answer max3420e_board_step(max3420e_chip chip, max3420e_firmware firmware, uint8_t *reply, size_t room);
+
+#ifdef __cplusplus
+}
+#endif
+
+#endif

@@ -1,0 +1,198 @@
+//! The C interface of the proved library (include/max3420e.h): its types, and safe calls of its functions.
+//! The only file with `unsafe`.
+
+#![allow(unsafe_code)]
+
+/// `max3420e_ring`.
+#[repr(C)]
+#[derive(Clone, Copy, Debug, PartialEq, Eq)]
+pub struct Ring {
+    pub bytes: [u8; 128],
+    pub counts: [u8; 2],
+    pub oldest: u8,
+    pub waiting: u8,
+}
+
+/// `max3420e_endpoint0`.
+#[repr(C)]
+#[derive(Clone, Copy, Debug, PartialEq, Eq)]
+pub struct Endpoint0 {
+    pub bytes: [u8; 64],
+    pub setup: [u8; 8],
+    pub count: u8,
+    pub armed: u8,
+    pub readpos: u8,
+    pub writepos: u8,
+    pub setuppos: u8,
+    pub intoggle: u8,
+    pub outtoggle: u8,
+    pub current: u8,
+}
+
+/// `max3420e_endpoint1`.
+#[repr(C)]
+#[derive(Clone, Copy, Debug, PartialEq, Eq)]
+pub struct Endpoint1 {
+    pub ring: Ring,
+    pub readpos: u8,
+    pub toggle: u8,
+}
+
+/// `max3420e_endpoint2`.
+#[repr(C)]
+#[derive(Clone, Copy, Debug, PartialEq, Eq)]
+pub struct Endpoint2 {
+    pub ring: Ring,
+    pub count: u8,
+    pub writepos: u8,
+    pub toggle: u8,
+}
+
+/// `max3420e_endpoint3`.
+#[repr(C)]
+#[derive(Clone, Copy, Debug, PartialEq, Eq)]
+pub struct Endpoint3 {
+    pub bytes: [u8; 64],
+    pub count: u8,
+    pub armed: u8,
+    pub writepos: u8,
+    pub toggle: u8,
+}
+
+/// `max3420e_registers`.
+#[repr(C)]
+#[derive(Clone, Copy, Debug, PartialEq, Eq)]
+pub struct Registers {
+    pub epstalls: u8,
+    pub clrtogs: u8,
+    pub epirq: u8,
+    pub epien: u8,
+    pub usbirq: u8,
+    pub usbien: u8,
+    pub usbctl: u8,
+    pub cpuctl: u8,
+    pub pinctl: u8,
+    pub fnaddr: u8,
+    pub iopins: u8,
+}
+
+/// `max3420e_power`.
+#[repr(C)]
+#[derive(Clone, Copy, Debug, PartialEq, Eq)]
+pub struct Power {
+    pub vbus: u8,
+    pub oscok: u8,
+}
+
+/// `max3420e_chip`.
+#[repr(C)]
+#[derive(Clone, Copy, Debug, PartialEq, Eq)]
+pub struct Chip {
+    pub ep0: Endpoint0,
+    pub ep1: Endpoint1,
+    pub ep2: Endpoint2,
+    pub ep3: Endpoint3,
+    pub registers: Registers,
+    pub power: Power,
+}
+
+/// `max3420e_firmware`.
+#[repr(C)]
+#[derive(Clone, Copy, Debug, PartialEq, Eq)]
+pub struct Firmware {
+    pub configuration: u8,
+    pub wakeup: u8,
+    pub halted: u8,
+}
+
+/// `max3420e_answer`.
+#[repr(C)]
+#[derive(Clone, Copy, Debug, PartialEq, Eq)]
+pub struct Answer {
+    pub chip: Chip,
+    pub refusal: u8,
+    pub pid: u8,
+    pub count: u16,
+    pub pin: u8,
+}
+
+/// `max3420e_board_answer`.
+#[repr(C)]
+#[derive(Clone, Copy, Debug, PartialEq, Eq)]
+pub struct BoardAnswer {
+    pub chip: Chip,
+    pub firmware: Firmware,
+    pub refusal: u8,
+    pub kind: u8,
+    pub count: u16,
+    pub pin: u8,
+}
+
+// The header's offsets, as tests/layout.c prints them.
+const _: () = {
+    use std::mem::offset_of;
+    assert!(size_of::<Chip>() == 430 && size_of::<Answer>() == 436 && size_of::<BoardAnswer>() == 440);
+    assert!(offset_of!(Chip, ep1) == 80 && offset_of!(Chip, ep2) == 214 && offset_of!(Chip, ep3) == 349);
+    assert!(offset_of!(Chip, registers) == 417 && offset_of!(Chip, power) == 428);
+    assert!(offset_of!(Answer, refusal) == 430 && offset_of!(Answer, count) == 432 && offset_of!(Answer, pin) == 434);
+    assert!(offset_of!(BoardAnswer, firmware) == 430 && offset_of!(BoardAnswer, refusal) == 433);
+    assert!(offset_of!(BoardAnswer, count) == 436 && offset_of!(BoardAnswer, pin) == 438);
+};
+
+#[cfg(capi)]
+pub use calls::*;
+
+#[cfg(capi)]
+mod calls {
+    use super::{Answer, BoardAnswer, Chip, Firmware};
+    use crate::bus::Event;
+
+    // SAFETY: the declarations of include/max3420e.h, whose layout tests/layout.c checks against the library.
+    // `safe`: it takes nothing and returns plain bytes.
+    unsafe extern "C" {
+        safe fn max3420e_power_on() -> Chip;
+        fn max3420e_transfer(chip: Chip, bytes: *const u8, length: usize, reply: *mut u8, room: usize) -> Answer;
+        fn max3420e_event(
+            chip: Chip,
+            code: u8,
+            pins: u8,
+            address: u8,
+            endpoint: u8,
+            damaged: u8,
+            data1: u8,
+            acknowledged: u8,
+            payload: *const u8,
+            length: usize,
+            reply: *mut u8,
+            room: usize,
+        ) -> Answer;
+        fn max3420e_board_step(chip: Chip, firmware: Firmware, reply: *mut u8, room: usize) -> BoardAnswer;
+    }
+
+    #[inline]
+    pub fn power_on() -> Chip {
+        max3420e_power_on()
+    }
+
+    #[inline]
+    pub fn transfer(chip: Chip, bytes: &[u8], reply: &mut [u8]) -> Answer {
+        // SAFETY: the pointers are those of slices that live through the call, with their lengths; a `&mut` slice
+        // overlaps no other; any record is allowed.
+        unsafe { max3420e_transfer(chip, bytes.as_ptr(), bytes.len(), reply.as_mut_ptr(), reply.len()) }
+    }
+
+    #[inline]
+    pub fn event(chip: Chip, what: &Event, payload: &[u8], reply: &mut [u8]) -> Answer {
+        let Event { code, pins, address, endpoint, damaged, data1, acknowledged } = *what;
+        let (bytes, length) = (payload.as_ptr(), payload.len());
+        let (to, room) = (reply.as_mut_ptr(), reply.len());
+        // SAFETY: as for `transfer`.
+        unsafe { max3420e_event(chip, code, pins, address, endpoint, damaged, data1, acknowledged, bytes, length, to, room) }
+    }
+
+    #[inline]
+    pub fn board_step(chip: Chip, firmware: Firmware, reply: &mut [u8]) -> BoardAnswer {
+        // SAFETY: as for `transfer`.
+        unsafe { max3420e_board_step(chip, firmware, reply.as_mut_ptr(), reply.len()) }
+    }
+}

@@ -1,0 +1,48 @@
+//! How soon each flip of this model (`flips::ALL`) is noticed against a reference, by each kind of runs.
+
+use crate::compare::{compare, Other, Second};
+use crate::flips::ALL;
+use crate::runs::*;
+
+/// How many calls of a stream of lists are played until the models differ.
+pub fn calls_until_noticed<L: Other, R: Other>(
+    left: &L,
+    right: &R,
+    lists: impl Iterator<Item = Vec<Call>>,
+) -> Option<usize> {
+    let mut calls = 0;
+    for list in lists {
+        match compare(left, right, &list) {
+            Some(difference) => return Some(calls + difference.at + 1),
+            None => calls += list.len(),
+        }
+    }
+    None
+}
+
+fn seeded(make: fn(&mut Rng) -> Vec<Call>, lists: u64) -> impl Iterator<Item = Vec<Call>> {
+    (0..lists).map(move |seed| make(&mut Rng::new(seed)))
+}
+
+fn from_power_on() -> impl Iterator<Item = Vec<Call>> {
+    (0..4000u64).map(|seed| if seed % 4 == 3 { requests(&mut Rng::new(seed)) } else { built(&mut Rng::new(seed)) })
+}
+
+/// Prints the table of flips; those that the built states do not notice.
+pub fn unnoticed_flips<R: Other>(reference: &R) -> Vec<&'static str> {
+    let show = |n: Option<usize>| n.map_or("-".to_string(), |n| n.to_string());
+    let mut missed = Vec::new();
+    println!("{:<60}{:>8}{:>8}{:>8}{:>8}", "calls until noticed by", "built", "walks", "pokes", "tables");
+    for (flip, (_, text)) in ALL.iter().enumerate() {
+        let flipped = Second { flips: 1 << flip };
+        let built = calls_until_noticed(reference, &flipped, from_power_on());
+        let walks = calls_until_noticed(reference, &flipped, seeded(|rng| walk(rng, 400), 200));
+        let pokes = calls_until_noticed(reference, &flipped, seeded(sound_record, 2000));
+        let tables = calls_until_noticed(reference, &flipped, whole_tables());
+        println!("{text:<60}{:>8}{:>8}{:>8}{:>8}", show(built), show(walks), show(pokes), show(tables));
+        if built.is_none() {
+            missed.push(*text);
+        }
+    }
+    missed
+}

@@ -1,0 +1,114 @@
+//! The second model against the proved library (libcapi.a): every answer, every lent byte, everything observable.
+//! A difference is printed as a console script. `COMPARE_SEED` (decimal) and `COMPARE_CALLS` choose other runs.
+
+#[cfg(not(capi))]
+#[test]
+fn skipped_without_the_library() {
+    println!("libcapi.a is not linked (see build.rs): nothing is compared");
+}
+
+#[cfg(capi)]
+mod linked {
+    use second::compare::{compare, shortest, Second};
+    use second::library::Library;
+    use second::noticed::unnoticed_flips;
+    use second::runs::*;
+    use second::script::script;
+
+    const RIGHT: Second = Second { flips: 0 };
+
+    fn number(name: &str, default: u64) -> u64 {
+        std::env::var(name).map_or(default, |text| text.parse().unwrap_or_else(|_| panic!("{name} is not a number")))
+    }
+
+    fn seed() -> u64 {
+        number("COMPARE_SEED", 3420)
+    }
+
+    /// Plays a list on both; how many calls that is.
+    fn agree(what: &str, calls: &[Call]) -> u64 {
+        if compare(&Library, &RIGHT, calls).is_none() {
+            return calls.len() as u64;
+        }
+        let (short, difference) = shortest(&Library, &RIGHT, calls).expect("it differs");
+        panic!(
+            "{what}: call {} of the script differs (library against second model) in {}\n{}",
+            difference.at + 1,
+            difference.what,
+            script(&short)
+        );
+    }
+
+    /// Lists of a generator, one for each seed, until `calls` are played.
+    fn agree_on(what: &str, calls: u64, make: impl Fn(&mut Rng) -> Vec<Call>) {
+        let (mut played, mut lists) = (0, 0);
+        while played < calls {
+            let seed = seed().wrapping_add(lists);
+            played += agree(&format!("{what}, seed {seed}"), &make(&mut Rng::new(seed)));
+            lists += 1;
+        }
+        println!("{what}: {played} calls in {lists} lists agree");
+    }
+
+    #[test]
+    fn mixed_runs() {
+        let (calls, mut played, mut lists) = (number("COMPARE_CALLS", 1_000_000), 0, 0);
+        while played < calls {
+            let seed = seed().wrapping_add(lists);
+            played += agree(&format!("mixed runs, seed {seed}"), &list(seed));
+            lists += 1;
+        }
+        println!("mixed runs: {played} calls in {lists} lists agree");
+    }
+
+    #[test]
+    fn long_walks() {
+        agree_on("walks", 200_000, |rng| walk(rng, 2000));
+    }
+
+    #[test]
+    fn built_states() {
+        agree_on("built states", 200_000, built);
+    }
+
+    #[test]
+    fn refused_calls() {
+        agree_on("refusals", 100_000, refusals);
+    }
+
+    #[test]
+    fn poked_records() {
+        agree_on("sound records", 200_000, sound_record);
+        agree_on("unsound records", 200_000, unsound_record);
+    }
+
+    #[test]
+    fn whole_enumerations() {
+        agree_on("enumerations", 100_000, enumeration);
+    }
+
+    #[test]
+    fn tables() {
+        let played: u64 = whole_tables().map(|list| agree("tables", &list)).sum();
+        println!("tables: {played} calls agree");
+    }
+
+    #[test]
+    fn every_pair_of_request_type_and_code() {
+        let rng = &mut Rng::new(seed());
+        let mut played = 0;
+        for kind in 0..=255 {
+            for configured in [false, true] {
+                played += agree("request pairs", &request_pairs(kind, configured, rng));
+            }
+        }
+        println!("request pairs: {played} calls agree");
+    }
+
+    /// The library is the reference: each flip of the second model is a difference from it.
+    #[test]
+    fn every_flip_is_noticed() {
+        let missed = unnoticed_flips(&Library);
+        assert!(missed.is_empty(), "not noticed by the built states: {missed:?}");
+    }
+}

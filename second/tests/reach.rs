@@ -1,0 +1,207 @@
+//! Do the runs reach what they are for? Counts the situations of a stream of lists; each named one must occur.
+
+use second::bus::*;
+use second::chip::*;
+use second::runs::*;
+use second::{board_event, board_step, fields, sees_bus, transfer, Chip, Event, Firmware};
+use std::collections::BTreeMap;
+
+#[derive(Default)]
+struct Counts(BTreeMap<String, usize>);
+
+impl Counts {
+    fn add(&mut self, what: String) {
+        *self.0.entry(what).or_default() += 1;
+    }
+}
+
+/// Plays a list on the model; from power-on without pokes every record must be sound.
+fn play(list: &[Call], counts: &mut Counts) {
+    let (mut chip, mut firmware) = (Chip::power_on(), Firmware::power_on());
+    let mut poked = false;
+    for call in list {
+        let mut reply = vec![0; call.room()];
+        match call {
+            Call::Transfer { bytes, .. } => {
+                let answer = transfer(chip, bytes, &mut reply);
+                counts.add(format!("transfer refusal {}", answer.refusal));
+                note_write(&chip, bytes, counts);
+                chip = answer.chip;
+            }
+            Call::Event { event, payload, .. } => {
+                let after = board_event(chip, firmware, *event, payload, &mut reply);
+                note_event(&chip, event, payload, after.answer.refusal, after.answer.pid, counts);
+                (chip, firmware) = (after.answer.chip, after.firmware);
+            }
+            Call::Step { .. } => {
+                let answer = board_step(chip, firmware, &mut reply);
+                counts.add(format!("step refusal {} kind {}", answer.refusal, answer.kind));
+                let changes = firmware != answer.firmware;
+                counts.add(format!("step changes the firmware {changes}"));
+                (chip, firmware) = (answer.chip, answer.firmware);
+            }
+            Call::Poke { field, value } => {
+                if *field < fields::FIELDS.len() {
+                    poked = true;
+                    fields::poke(&mut chip, *field, *value);
+                }
+            }
+        }
+        assert!(poked || chip.is_sound() && firmware.is_sound());
+    }
+}
+
+fn note_write(chip: &Chip, bytes: &[u8], counts: &mut Counts) {
+    let &[command, byte, ..] = bytes else { return };
+    let chips = [chip.ep0_waiting > 0 || chip.has(EPIRQ, OUT0DAVIRQ), false, chip.ep2.waiting == 2, chip.ep3_waiting > 0];
+    match (command & 2, command >> 3) {
+        (2, r @ (0 | 2 | 3)) => counts.add(format!("R{r} written, the chip's {}", chips[r as usize])),
+        (2, 5) => counts.add(format!("R5 over {} the chip's {}", byte & 0x7F > 64, chips[0])),
+        (2, 7) => counts.add(format!("R7 over {} waiting {} first {}", byte > 64, chip.ep2.waiting, chip.ep2.oldest)),
+        (2, 8) => counts.add(format!("R8 over {} the chip's {}", byte > 64, chips[3])),
+        (2, 11) if byte & 4 != 0 => counts.add(format!("release of {} first {}", chip.ep1.waiting, chip.ep1.oldest)),
+        (2, 15) => counts.add(format!("CHIPRES {} to {}", chip.has(USBCTL, CHIPRES), byte & CHIPRES != 0)),
+        (0, 1) => counts.add(format!("R1 read with {} first {}", chip.ep1.waiting, chip.ep1.oldest)),
+        _ => {}
+    }
+}
+
+fn note_event(chip: &Chip, event: &Event, payload: &[u8], refusal: u8, pid: u8, counts: &mut Counts) {
+    let code = event.code.min(13);
+    counts.add(format!("event {code} refusal {refusal}"));
+    if refusal != 0 || code < RESET_START {
+        return;
+    }
+    counts.add(format!("event {code} seen {}", sees_bus(chip)));
+    let gate = (chip.has(USBCTL, VBGATE), chip.vbus == 1);
+    counts.add(format!("event {code} gate {gate:?}"));
+    let hears = sees_bus(chip) && event.address == chip.r(FNADDR) && (event.damaged == 0 || code == IN_EVENT);
+    if hears && code >= SETUP_EVENT {
+        counts.add(format!("event {code} endpoint {} pid {pid:02X}", event.endpoint.min(4)));
+        note_endpoint(chip, event, payload, counts);
+    }
+}
+
+/// Endpoint 0: each stage with each of ACKSTAT, STLSTAT and its STLEP bit; the others: disabled, stalled, packets, turn.
+fn note_endpoint(chip: &Chip, event: &Event, payload: &[u8], counts: &mut Counts) {
+    let bits = |b: u8| u8::from(chip.has(EPSTALLS, b));
+    let room = chip.ep0_waiting == 0 && !chip.has(EPIRQ, OUT0DAVIRQ);
+    let (disabled, stalled, waiting, first, toggle) = match (event.code, event.endpoint) {
+        (IN_EVENT, 0) => {
+            let r9 = (bits(ACKSTAT), bits(STLSTAT), bits(STLEP0IN));
+            return counts.add(format!("IN 0 {} {r9:?} armed {}", transfer_kind(chip), chip.ep0_waiting));
+        }
+        (OUT_EVENT, 0) => {
+            let r9 = (bits(ACKSTAT), bits(STLSTAT), bits(STLEP0OUT));
+            counts.add(format!("OUT 0 {} {r9:?} empty {}", transfer_kind(chip), payload.is_empty()));
+            let fits = u8::from(event.data1 != 0) == chip.toggle_ep0out;
+            return counts.add(format!("OUT 0 {} room {room} toggle fits {fits}", transfer_kind(chip)));
+        }
+        (OUT_EVENT, 1) => {
+            let fits = u8::from(event.data1 != 0) == chip.toggle_ep1;
+            (chip.has(CLRTOGS, 0x20), bits(STLEP1OUT), chip.ep1.waiting, chip.ep1.oldest, fits)
+        }
+        (IN_EVENT, 2) => {
+            let lost = event.acknowledged == 0;
+            (chip.has(CLRTOGS, 0x40), bits(STLEP2IN), chip.ep2.waiting, chip.ep2.oldest, lost)
+        }
+        (IN_EVENT, 3) => (chip.has(CLRTOGS, 0x80), bits(STLEP3IN), chip.ep3_waiting, 0, event.acknowledged == 0),
+        _ => return,
+    };
+    let code = event.code;
+    counts.add(format!("event {code} at {} disabled {disabled} stalled {stalled}", event.endpoint));
+    if !disabled && stalled == 0 {
+        counts.add(format!("event {code} at {} waiting {waiting} first {first} mark {toggle}", event.endpoint));
+    }
+}
+
+fn transfer_kind(chip: &Chip) -> &'static str {
+    match (chip.setup, chip.sudfifo[0] & 0x80 != 0, chip.wlength() != 0) {
+        (0, _, _) => "no setup",
+        (_, true, true) => "read",
+        (_, false, true) => "write",
+        (_, true, false) => "read of 0",
+        (_, false, false) => "no data",
+    }
+}
+
+/// Everything that must occur.
+fn wanted() -> Vec<String> {
+    let mut all = Vec::new();
+    let both = [false, true];
+    let kinds = ["no setup", "read", "write", "read of 0", "no data"];
+    for n in 0..16 {
+        let r9 = (n & 1, n >> 1 & 1, n >> 2 & 1);
+        for kind in kinds {
+            if kind != "no setup" {
+                all.push(format!("IN 0 {kind} {r9:?} armed {}", n >> 3));
+            }
+            all.push(format!("OUT 0 {kind} {r9:?} empty {}", n >> 3 == 1));
+        }
+    }
+    for (a, b) in [(false, false), (false, true), (true, false), (true, true)] {
+        all.push(format!("OUT 0 write room {a} toggle fits {b}"));
+        all.push(format!("R5 over {a} the chip's {b}"));
+        all.push(format!("R8 over {a} the chip's {b}"));
+        all.push(format!("CHIPRES {a} to {b}"));
+        all.extend((6..=12).map(|code| format!("event {code} gate {:?}", (a, b))));
+        let places = [(11, 1), (12, 2), (12, 3)];
+        all.extend(places.iter().map(|(c, e)| format!("event {c} at {e} disabled {a} stalled {}", u8::from(b))));
+        all.extend((0..2).map(|waiting| format!("event 12 at 3 waiting {waiting} first 0 mark {a}")));
+    }
+    for b in both {
+        all.extend([0, 2, 3].iter().map(|r| format!("R{r} written, the chip's {b}")));
+        all.extend((6..=12).map(|code| format!("event {code} seen {b}")));
+        for n in 0..6 {
+            let (waiting, first) = (n % 3, n / 3);
+            all.push(format!("event 11 at 1 waiting {waiting} first {first} mark {b}"));
+            all.push(format!("event 12 at 2 waiting {waiting} first {first} mark {b}"));
+            all.push(format!("R7 over {b} waiting {waiting} first {first}"));
+            all.push(format!("release of {waiting} first {first}"));
+            all.push(format!("R1 read with {waiting} first {first}"));
+        }
+    }
+    for pid in ["D2", "5A", "1E"] {
+        all.extend((0..2).map(|e| format!("event 11 endpoint {e} pid {pid}")));
+    }
+    for pid in ["5A", "1E", "C3", "4B"] {
+        all.extend([0, 2, 3].iter().map(|e| format!("event 12 endpoint {e} pid {pid}")));
+    }
+    all.extend([0, 2, 3, 4].iter().map(|n| format!("transfer refusal {n}")));
+    all.extend((0..=12).map(|code| format!("event {code} refusal {}", if code == 0 { 5 } else { 0 })));
+    all.extend(["event 12 refusal 4", "event 13 refusal 5", "event 10 refusal 6", "event 11 refusal 6"].map(String::from));
+    all.extend((10..=12).map(|code| format!("event {code} refusal 7")));
+    all.extend((0..=3).map(|kind| format!("step refusal 0 kind {kind}")));
+    all.push("step refusal 4 kind 0".to_string());
+    all
+}
+
+#[test]
+fn the_runs_reach_every_situation_from_power_on() {
+    let mut counts = Counts::default();
+    let mut calls = 0;
+    for seed in 0..3000u64 {
+        let rng = &mut Rng::new(seed);
+        let list = match seed % 8 {
+            0 => walk(rng, 400),
+            1 | 2 => requests(rng),
+            3 => refusals(rng),
+            _ => built(rng),
+        };
+        calls += list.len();
+        play(&list, &mut counts);
+    }
+    let missing: Vec<String> = wanted().into_iter().filter(|name| !counts.0.contains_key(name)).collect();
+    let rare: Vec<_> = counts.0.iter().filter(|(_, n)| **n < 10).collect();
+    println!("{calls} calls, {} situations, rare: {rare:?}", counts.0.len());
+    assert!(missing.is_empty(), "not reached: {missing:#?}");
+}
+
+#[test]
+fn unsound_records_are_reached_and_refused() {
+    let mut counts = Counts::default();
+    (0..500u64).for_each(|seed| play(&unsound_record(&mut Rng::new(seed)), &mut counts));
+    for name in ["transfer refusal 1", "event 1 refusal 1", "event 12 refusal 1", "step refusal 1 kind 0"] {
+        assert!(counts.0.contains_key(name), "{name}");
+    }
+}

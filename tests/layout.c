@@ -1,0 +1,243 @@
+/* Does libcapi.a lay out the records as include/max3420e.h does? Prints where each field stands. Checks that a refused
+ * call hands a record of distinct values back, field by field; that each byte of it has its own limit of soundness; and
+ * what single calls read and change, which tells fields with equal limits apart. Exit status 1 on a mismatch. */
+#include <stdio.h>
+#include <string.h>
+
+#include "max3420e.h"
+
+/* A field: where it stands in its struct; for the chip's, the largest sound value of a byte and the bits that are 0. */
+typedef struct {
+    const char *owner, *name;
+    size_t offset, size;
+    unsigned limit, unused;
+} field;
+
+#define SIZE(type, member) sizeof(((type *)0)->member)
+#define FIELD(type, member, limit, unused) {#type, #member, offsetof(type, member), SIZE(type, member), limit, unused}
+#define CHIP(member, limit, unused) FIELD(max3420e_chip, member, limit, unused)
+#define OF(type, member) FIELD(type, member, 0, 0)
+#define COUNT(table) (sizeof(table) / sizeof((table)[0]))
+
+static const field chip_fields[] = {
+    CHIP(ep0.bytes, 255, 0), CHIP(ep0.setup, 255, 0), CHIP(ep0.count, 64, 0), CHIP(ep0.armed, 1, 0),
+    CHIP(ep0.readpos, 64, 0), CHIP(ep0.writepos, 64, 0), CHIP(ep0.setuppos, 8, 0), CHIP(ep0.intoggle, 1, 0),
+    CHIP(ep0.outtoggle, 1, 0), CHIP(ep0.current, 1, 0),
+    CHIP(ep1.ring.bytes, 255, 0), CHIP(ep1.ring.counts, 64, 0), CHIP(ep1.ring.oldest, 1, 0),
+    CHIP(ep1.ring.waiting, 2, 0), CHIP(ep1.readpos, 64, 0), CHIP(ep1.toggle, 1, 0),
+    CHIP(ep2.ring.bytes, 255, 0), CHIP(ep2.ring.counts, 64, 0), CHIP(ep2.ring.oldest, 1, 0),
+    CHIP(ep2.ring.waiting, 2, 0), CHIP(ep2.count, 64, 0), CHIP(ep2.writepos, 64, 0), CHIP(ep2.toggle, 1, 0),
+    CHIP(ep3.bytes, 255, 0), CHIP(ep3.count, 64, 0), CHIP(ep3.armed, 1, 0), CHIP(ep3.writepos, 64, 0),
+    CHIP(ep3.toggle, 1, 0),
+    CHIP(registers.epstalls, 255, 0x80), CHIP(registers.clrtogs, 255, 0x1F), CHIP(registers.epirq, 255, 0xC0),
+    CHIP(registers.epien, 255, 0xC0), CHIP(registers.usbirq, 255, 0), CHIP(registers.usbien, 255, 0),
+    CHIP(registers.usbctl, 255, 0x03), CHIP(registers.cpuctl, 255, 0xFE), CHIP(registers.pinctl, 255, 0),
+    CHIP(registers.fnaddr, 255, 0x80), CHIP(registers.iopins, 255, 0),
+    CHIP(power.vbus, 1, 0), CHIP(power.oscok, 1, 0),
+};
+
+static const field other_fields[] = {
+    OF(max3420e_ring, bytes), OF(max3420e_ring, counts), OF(max3420e_ring, oldest), OF(max3420e_ring, waiting),
+    OF(max3420e_endpoint0, bytes), OF(max3420e_endpoint0, setup), OF(max3420e_endpoint0, count),
+    OF(max3420e_endpoint0, armed), OF(max3420e_endpoint0, readpos), OF(max3420e_endpoint0, writepos),
+    OF(max3420e_endpoint0, setuppos), OF(max3420e_endpoint0, intoggle), OF(max3420e_endpoint0, outtoggle),
+    OF(max3420e_endpoint0, current),
+    OF(max3420e_endpoint1, ring), OF(max3420e_endpoint1, readpos), OF(max3420e_endpoint1, toggle),
+    OF(max3420e_endpoint2, ring), OF(max3420e_endpoint2, count), OF(max3420e_endpoint2, writepos),
+    OF(max3420e_endpoint2, toggle),
+    OF(max3420e_endpoint3, bytes), OF(max3420e_endpoint3, count), OF(max3420e_endpoint3, armed),
+    OF(max3420e_endpoint3, writepos), OF(max3420e_endpoint3, toggle),
+    OF(max3420e_registers, epstalls), OF(max3420e_registers, clrtogs), OF(max3420e_registers, epirq),
+    OF(max3420e_registers, epien), OF(max3420e_registers, usbirq), OF(max3420e_registers, usbien),
+    OF(max3420e_registers, usbctl), OF(max3420e_registers, cpuctl), OF(max3420e_registers, pinctl),
+    OF(max3420e_registers, fnaddr), OF(max3420e_registers, iopins),
+    OF(max3420e_power, vbus), OF(max3420e_power, oscok),
+    OF(max3420e_chip, ep0), OF(max3420e_chip, ep1), OF(max3420e_chip, ep2), OF(max3420e_chip, ep3),
+    OF(max3420e_chip, registers), OF(max3420e_chip, power),
+    OF(max3420e_firmware, configuration), OF(max3420e_firmware, wakeup), OF(max3420e_firmware, halted),
+    OF(max3420e_answer, chip), OF(max3420e_answer, refusal), OF(max3420e_answer, pid), OF(max3420e_answer, count),
+    OF(max3420e_answer, pin),
+    OF(max3420e_board_answer, chip), OF(max3420e_board_answer, firmware), OF(max3420e_board_answer, refusal),
+    OF(max3420e_board_answer, kind), OF(max3420e_board_answer, count), OF(max3420e_board_answer, pin),
+};
+
+static unsigned mismatches;
+static uint8_t reply[MAX3420E_BUFFER];
+
+static void expect(int holds, const char *what)
+{
+    if (!holds) {
+        printf("mismatch: %s\n", what);
+        mismatches++;
+    }
+}
+
+static void print_fields(const field *fields, size_t count)
+{
+    for (size_t i = 0; i < count; i++)
+        printf("%-22s %-20s at %3u size %3u\n", fields[i].owner, fields[i].name, (unsigned)fields[i].offset,
+               (unsigned)fields[i].size);
+}
+
+/* The chip's fields follow each other without a gap. */
+static void check_gaps(void)
+{
+    size_t end = 0;
+    for (size_t i = 0; i < COUNT(chip_fields); i++) {
+        expect(chip_fields[i].offset == end, chip_fields[i].name);
+        end = chip_fields[i].offset + chip_fields[i].size;
+    }
+    expect(end == sizeof(max3420e_chip), "sizeof(max3420e_chip)");
+}
+
+/* Sets the bits of R11 that tell whether packets wait. */
+static void tie_irqs(max3420e_chip *chip)
+{
+    unsigned bits = (chip->ep3.armed == 0) << 4 | (chip->ep2.ring.waiting < 2) << 3 | (chip->ep1.ring.waiting > 0) << 2;
+    chip->registers.epirq = (uint8_t)((chip->registers.epirq & 0xE3) | bits);
+}
+
+/* A sound record that hears address 25, in a control read, with as many distinct values as soundness allows. */
+static max3420e_chip distinct(void)
+{
+    max3420e_chip chip;
+    uint8_t *bytes = (uint8_t *)&chip;
+    for (size_t i = 0; i < sizeof chip; i++)
+        bytes[i] = (uint8_t)(i * 5 + i / 256 + 0x80);
+    chip.ep0.setup[0] |= 0x80;
+    chip.ep0.count = 10, chip.ep0.armed = 0, chip.ep0.readpos = 3, chip.ep0.writepos = 5, chip.ep0.setuppos = 2;
+    chip.ep0.intoggle = 1, chip.ep0.outtoggle = 0, chip.ep0.current = 1;
+    chip.ep1.ring.counts[0] = 20, chip.ep1.ring.counts[1] = 30, chip.ep1.ring.oldest = 1, chip.ep1.ring.waiting = 2;
+    chip.ep1.readpos = 6, chip.ep1.toggle = 1;
+    chip.ep2.ring.counts[0] = 40, chip.ep2.ring.counts[1] = 50, chip.ep2.ring.oldest = 0, chip.ep2.ring.waiting = 1;
+    chip.ep2.count = 60, chip.ep2.writepos = 7, chip.ep2.toggle = 1;
+    chip.ep3.count = 9, chip.ep3.armed = 0, chip.ep3.writepos = 8, chip.ep3.toggle = 1;
+    chip.registers = (max3420e_registers){0x4C, 0xA0, 0x20, 0x12, 0x11, 0x86, 0x08, 0x01, 0x1B, 0x25, 0x7E};
+    chip.power.vbus = 0, chip.power.oscok = 1;
+    tie_irqs(&chip);
+    return chip;
+}
+
+static void expect_same(const max3420e_chip *got, const max3420e_chip *wanted, const char *what)
+{
+    for (size_t i = 0; i < COUNT(chip_fields); i++) {
+        const field *f = &chip_fields[i];
+        if (memcmp((const uint8_t *)got + f->offset, (const uint8_t *)wanted + f->offset, f->size) != 0) {
+            printf("field %s: ", f->name);
+            expect(0, what);
+        }
+    }
+}
+
+/* Each byte of a field with each value: refused for it exactly over the limit, and handed back as it was. */
+static void check_limits(const field *f)
+{
+    for (size_t at = f->offset; at < f->offset + f->size; at++)
+        for (unsigned value = 0; value < 256; value++) {
+            max3420e_chip chip = distinct();
+            ((uint8_t *)&chip)[at] = (uint8_t)value;
+            tie_irqs(&chip);
+            int sound = value <= f->limit && (value & f->unused) == 0;
+            max3420e_answer answer = max3420e_transfer(chip, reply, 0, reply, 0);
+            expect(answer.refusal == (sound ? MAX3420E_NO_COMMAND : MAX3420E_UNSOUND), f->name);
+            expect(answer.pid == 0 && answer.count == 0, "the answer of a refused transfer");
+            expect_same(&answer.chip, &chip, "a refused transfer changes it");
+        }
+}
+
+/* A transfer on the distinct record gives this byte and this record; `wanted` then starts over. */
+static void expect_transfer(uint8_t command, uint8_t byte, uint8_t wanted_byte, max3420e_chip *wanted, const char *what)
+{
+    uint8_t bytes[2];
+    bytes[0] = command, bytes[1] = byte;
+    max3420e_answer answer = max3420e_transfer(distinct(), bytes, 2, reply, sizeof reply);
+    expect(answer.refusal == 0 && answer.count == 2 && reply[1] == wanted_byte, what);
+    expect_same(&answer.chip, wanted, what);
+    *wanted = distinct();
+}
+
+static void check_transfers(void)
+{
+    max3420e_chip next = distinct();
+    next.ep0.readpos++;
+    expect_transfer(0x00, 0, next.ep0.bytes[3], &next, "R0 read");
+    next.ep1.readpos++;
+    expect_transfer(0x08, 0, next.ep1.ring.bytes[64 + 6], &next, "R1 read");
+    next.ep0.setuppos++;
+    expect_transfer(0x20, 0, next.ep0.setup[2], &next, "R4 read");
+    next.ep0.bytes[next.ep0.writepos++] = 1;
+    expect_transfer(0x02, 1, 0, &next, "R0 written");
+    next.ep2.ring.bytes[64 + next.ep2.writepos++] = 1;
+    expect_transfer(0x12, 1, 0, &next, "R2 written");
+    next.ep3.bytes[next.ep3.writepos++] = 1;
+    expect_transfer(0x1A, 1, 0, &next, "R3 written");
+    next.ep1.toggle = 0;
+    expect_transfer(0x52, 0xA4, 0, &next, "CTGEP1OUT");
+    next.ep2.toggle = 0;
+    expect_transfer(0x52, 0xA8, 0, &next, "CTGEP2IN");
+    next.ep3.toggle = 0;
+    expect_transfer(0x52, 0xB0, 0, &next, "CTGEP3IN");
+    next.ep2.ring.counts[1] = next.ep2.count = 33, next.ep2.ring.waiting = 2, next.ep2.writepos = 0;
+    tie_irqs(&next);
+    expect_transfer(0x3A, 33, 0, &next, "R7 written");
+}
+
+/* R5 to R20 as read from the distinct record. */
+static void check_registers(void)
+{
+    static const uint8_t wanted[17] = {0xBC, 10, 30, 60, 9, 0x4C, 0xA0, 0x3C, 0x12, 0x11, 0x86, 0x08, 0x01, 0x1B, 0x01, 0x25, 0x7E};
+    static const uint8_t bytes[17] = {0x28};
+    max3420e_answer answer = max3420e_transfer(distinct(), bytes, sizeof bytes, reply, sizeof reply);
+    expect(answer.count == sizeof bytes && memcmp(reply, wanted, sizeof bytes) == 0, "R5 to R20");
+    expect(answer.pin == MAX3420E_PIN_LOW, "the pin");
+}
+
+static void check_events(void)
+{
+    max3420e_chip chip = distinct(), next = chip;
+    next.power.vbus = 1, next.registers.usbirq |= 0x40;
+    max3420e_answer answer = max3420e_event(chip, MAX3420E_VBUS_ON, 0, 0, 0, 0, 0, 0, reply, 0, reply, 0);
+    expect_same(&answer.chip, &next, "VBUS on");
+    chip.ep0.armed = 1, next = chip;
+    next.ep0.armed = 0, next.ep0.intoggle = 0, next.registers.epirq |= 0x01;
+    answer = max3420e_event(chip, MAX3420E_IN_TOKEN, 0, 0x25, 0, 0, 0, 1, reply, 0, reply, sizeof reply);
+    expect(answer.refusal == 0 && answer.pid == MAX3420E_DATA1 && answer.count == 10, "IN at endpoint 0");
+    expect(memcmp(reply, chip.ep0.bytes, 10) == 0, "the packet of endpoint 0");
+    expect_same(&answer.chip, &next, "IN at endpoint 0");
+}
+
+/* The board's answer: the firmware's record handed back, and a device descriptor sent. */
+static void check_board(void)
+{
+    static const uint8_t request[8] = {0x80, 0x06, 0x00, 0x01, 0x00, 0x00, 0x40, 0x00};
+    for (unsigned i = 0; i < 64; i++) {
+        max3420e_firmware firmware = {(uint8_t)(i & 3), (uint8_t)(i >> 2 & 3), (uint8_t)(i >> 4)};
+        int sound = firmware.configuration <= 1 && firmware.wakeup <= 1 && firmware.halted <= firmware.configuration;
+        max3420e_board_answer answer = max3420e_board_step(distinct(), firmware, reply, 0);
+        expect(answer.refusal == (sound ? MAX3420E_SHORT_BUFFER : MAX3420E_UNSOUND), "the board's refusal");
+        expect(memcmp(&answer.firmware, &firmware, sizeof firmware) == 0, "the firmware's record");
+    }
+    max3420e_chip chip = distinct();
+    memcpy(chip.ep0.setup, request, sizeof request), chip.ep0.setuppos = 0;
+    max3420e_firmware configured = {1, 1, 0};
+    max3420e_board_answer answer = max3420e_board_step(chip, configured, reply, sizeof reply);
+    expect(answer.refusal == 0 && answer.kind == MAX3420E_KIND_DATA && answer.count == 18, "the board's answer");
+    expect(answer.pin == MAX3420E_PIN_LOW && reply[0] == 18 && reply[1] == 1, "the device descriptor");
+}
+
+int main(void)
+{
+    print_fields(chip_fields, COUNT(chip_fields));
+    print_fields(other_fields, COUNT(other_fields));
+    check_gaps();
+    for (size_t i = 0; i < COUNT(chip_fields); i++)
+        check_limits(&chip_fields[i]);
+    check_transfers();
+    check_registers();
+    check_events();
+    check_board();
+    if (mismatches > 0)
+        return 1;
+    printf("layout: %u fields agree\n", (unsigned)(COUNT(chip_fields) + COUNT(other_fields)));
+    return 0;
+}
