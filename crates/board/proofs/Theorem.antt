@@ -5,10 +5,11 @@ use mathlib.Core.Bool.{Bool, true, false, not, cond, _&&_}
 use mathlib.Core.List.{List, [], _∷_, _++_}
 use Prim.Native.Nat.{ℕ}
 use native.Mathlib.Omega.{arith}
+use lib.Dec.{ltb}
 use lib.ListN.{replicate}
 use Rattle.bits.proofs.Cases.{cond-elim, and-true}
 use Rattle.bits.proofs.First.{first-each, Each, none, _⨾_}
-use Rattle.refusal.specs.declared.Refusal.the-variants.{Unsound}
+use Rattle.refusal.specs.declared.Refusal.the-variants.{Unsound, ShortBuffer}
 use Rattle.chip.specs.declared.Chip.{Chip}
 use Rattle.chip.specs.Record.{powerOnChip}
 use Rattle.chip.specs.Sound.{soundChip}
@@ -17,7 +18,7 @@ use Rattle.request.specs.Record.{powerOnFirmware, soundFirmware}
 use Rattle.firmware.proofs.Laws.{answer-sound}
 use Rattle.model.specs.declared.Checked.{Checked}
 use Rattle.model.specs.declared.Checked.the-variants.{Accepted, Refused}
-use Rattle.model.specs.Call.{Call, transfer, event, Answer, refused, answerOf, runTo, history}
+use Rattle.model.specs.Call.{Call, transfer, event, Answer, refused, answerOf, runTo, history, check, checkedNumber}
 use Rattle.model.specs.Book.{bookOf}
 use Rattle.model.proofs.Runs.{run-append}
 use Rattle.rules.specs.Event.{max3420e}
@@ -80,3 +81,11 @@ board-reached-accepted ks k e =
     (ap (λ (c : Chip). answerOf max3420e c k) (sym (board-run powerOnBoard ks))
     ∙ sym (ap (λ (t : Bool). cond t (answerOf max3420e (boardRunTo powerOnBoard ks .chip) k) (refused Unsound))
     (run-firmware powerOnBoard ks refl)) ∙ e)
+
+-- nor a step: a sound board is refused for its buffer only
+short-only : (t : Bool) → check ((false, Unsound) ∷ (t, ShortBuffer) ∷ []) ≡ Refused Unsound → ⊥
+short-only true e = let z : _≡_ {A = ℕ} 4 1 = ap checkedNumber e in absurd (omega arith)
+short-only false e = let z : _≡_ {A = ℕ} 0 1 = ap checkedNumber e in absurd (omega arith)
+
+pub board-step-accepted : (ks : List BoardCall) (room : ℕ) → stepChecked (boardRunTo powerOnBoard ks) room ≡ Refused Unsound → ⊥
+board-step-accepted ks room e = short-only (ltb room 64) (rw (board-reached-sound ks) at e)
