@@ -1,0 +1,152 @@
+-- The rules of R0 to R4 on the record are those of a buffer and its write position, and of a packet and its read position.
+use mathlib.Core.Path.{_≡_, refl, sym, ap, _∙_}
+use mathlib.Core.Bool.{Bool, true, false, cond, _||_}
+use mathlib.Core.List.{List}
+use Prim.Native.Nat.{ℕ, _+_, _*_, _<_, _≤_}
+use native.Mathlib.Nat.{zero-add}
+use native.Mathlib.Decide.{decLt}
+use native.Mathlib.Omega.{arith}
+use lib.Dec.{leb, ltb}
+use lib.ListN.{length, getD, set, take, List·getD-eq-default}
+use lib.Seq.{getD-take, length-take-le}
+use borrow.Author.Tests.{le-leb, lt-ltb, le-ltb}
+use Rattle.bits.specs.Bit.{has}
+use Rattle.ring.specs.Ring.{full, nextBuffer, oldestCount, oldestPacket, withBytes}
+use Rattle.chip.specs.declared.Endpoint0.{Endpoint0}
+use Rattle.chip.specs.declared.Endpoint1.{Endpoint1}
+use Rattle.chip.specs.declared.Endpoint2.{Endpoint2}
+use Rattle.chip.specs.declared.Endpoint3.{Endpoint3}
+use Rattle.chip.specs.declared.Chip.{Chip}
+use Rattle.chip.specs.Mask.{out0davirq}
+use Rattle.chip.specs.Set.{setEp0, setEp1, setEp2, setEp3}
+use Rattle.model.specs.Reply.{Outcome, outcome}
+use Rattle.rules.specs.Write.{storeFifo}
+use Rattle.rules.specs.Read.{ep0At}
+use Rattle.rules.specs.Spi.{stepRegister, max3420eSpi}
+use Rattle.fifos.specs.Fifo.{positionTo}
+use Rattle.bursts.specs.Burst.{Filling, filling, limitOf, fillTo, fillingSpi, packetSpi, Burst}
+use Rattle.bursts.proofs.Part.{put-back}
+
+either : {A : Type 0} (t : Bool) (x : A) → x ≡ cond t x x
+either true x = refl
+either false x = refl
+
+cond-map : {A B : Type 0} (g : A → B) (t : Bool) (x y : A) → g (cond t x y) ≡ cond t (g x) (g y)
+cond-map g true x y = refl
+cond-map g false x y = refl
+
+-- a limit of 0 ignores every byte, as a buffer that is the chip's does
+stores : {R : Type 0} (put : Filling → R) (busy : Bool) (start : ℕ) (s : Filling) (b : ℕ)
+    → put (fillTo start (limitOf busy) s b) ≡ storeFifo (s .position) busy (put s)
+    (put (filling (set (s .bytes) (start + s .position) b) (s .position + 1)))
+stores put true start s b = rw (le-leb 0 (s .position) (omega arith)) (either (leb 64 (s .position)) (put s))
+stores put false start s b = cond-map put (leb 64 (s .position)) s (filling (set (s .bytes) (start + s .position) b) (s .position + 1))
+
+stores-first : {R : Type 0} (put : Filling → R) (busy : Bool) (s : Filling) (b : ℕ)
+    → put (fillTo 0 (limitOf busy) s b) ≡ storeFifo (s .position) busy (put s)
+    (put (filling (set (s .bytes) (s .position) b) (s .position + 1)))
+stores-first put busy s b =
+    let p = s .position in
+    stores put busy 0 s b ∙ ap (λ (k : ℕ). storeFifo p busy (put s) (put (filling (set (s .bytes) k b) (p + 1)))) (zero-add p)
+
+-- what a read of a packet moves, and its byte
+abbrev readAt : {R : Type 0} → (ℕ → R) → ℕ → ℕ → ℕ → Outcome R ℕ
+readAt put end p byte = cond (ltb p end) (outcome (put (p + 1)) byte) (outcome (put p) 0)
+
+moves : {R : Type 0} (put : ℕ → R) (end p byte : ℕ) → put (positionTo p end) ≡ readAt put end p byte .state
+moves put end p byte = elim (decLt p end) [ yes l ↦ rw (lt-ltb p end l) | no g ↦ rw (le-ltb p end (omega arith)) ]
+
+gives : {R : Type 0} (put : ℕ → R) (packet : List ℕ) (p byte : ℕ) → (p < length packet → byte ≡ getD packet p 0)
+    → getD packet p 0 ≡ readAt put (length packet) p byte .gives
+gives put packet p byte same =
+    elim (decLt p (length packet)) [
+      | yes l ↦ rw (lt-ltb p (length packet) l) (sym (same l))
+      | no g ↦ rw (le-ltb p (length packet) (omega arith)) (List·getD-eq-default packet 0 (omega arith))
+    ]
+
+-- ---- the endpoints
+
+-- buffers and a write position in the place of an endpoint's
+abbrev ep2Filled : Endpoint2 → Chip → Filling → Chip
+ep2Filled e c s =
+    setEp2 (record { ring = withBytes (e .ring) (s .bytes); count = e .count; writepos = s .position; toggle = e .toggle }) c
+
+pub written-ep2 : (c : Chip) (e : Endpoint2) (bytes reply out : List ℕ) (after : Filling)
+    → Burst (fillingSpi (nextBuffer 2 (e .ring) * 64) (limitOf (full 2 (e .ring)))) (filling (e .ring .bytes) (e .writepos)) after true 0
+    bytes reply out
+    → Burst max3420eSpi (setEp2 e c) (ep2Filled e c after) true 2 bytes reply out
+written-ep2 c e bytes reply out after =
+    put-back max3420eSpi (fillTo (nextBuffer 2 (e .ring) * 64) (limitOf (full 2 (e .ring)))) (λ s. outcome s 0) (ep2Filled e c) true 2 refl
+    (stores (ep2Filled e c) (full 2 (e .ring)) (nextBuffer 2 (e .ring) * 64)) (λ s. refl) bytes reply out
+    (filling (e .ring .bytes) (e .writepos)) after
+
+abbrev ep0Filled : Endpoint0 → Chip → Filling → Chip
+ep0Filled e c s =
+    setEp0 (record {
+      bytes = s .bytes;
+      setup = e .setup;
+      count = e .count;
+      armed = e .armed;
+      readpos = e .readpos;
+      writepos = s .position;
+      setuppos = e .setuppos;
+      intoggle = e .intoggle;
+      outtoggle = e .outtoggle;
+      current = e .current;
+    }) c
+
+pub written-ep0 : (c : Chip) (e : Endpoint0) (dav : Bool) (bytes reply out : List ℕ) (after : Filling) → has (c .registers .epirq) out0davirq
+    ≡ dav
+    → Burst (fillingSpi 0 (limitOf (e .armed || dav))) (filling (e .bytes) (e .writepos)) after true 0 bytes reply out
+    → Burst max3420eSpi (setEp0 e c) (ep0Filled e c after) true 0 bytes reply out
+written-ep0 c e dav bytes reply out after same =
+    put-back max3420eSpi (fillTo 0 (limitOf (e .armed || dav))) (λ s. outcome s 0) (ep0Filled e c) true 0 refl
+    (λ s b. rw same (stores-first (ep0Filled e c) (e .armed || dav) s b)) (λ s. refl) bytes reply out (filling (e .bytes) (e .writepos)) after
+
+abbrev ep3Filled : Endpoint3 → Chip → Filling → Chip
+ep3Filled e c s =
+    setEp3 (record { bytes = s .bytes; count = e .count; armed = e .armed; writepos = s .position; toggle = e .toggle }) c
+
+pub written-ep3 : (c : Chip) (e : Endpoint3) (bytes reply out : List ℕ) (after : Filling)
+    → Burst (fillingSpi 0 (limitOf (e .armed))) (filling (e .bytes) (e .writepos)) after true 0 bytes reply out
+    → Burst max3420eSpi (setEp3 e c) (ep3Filled e c after) true 3 bytes reply out
+written-ep3 c e bytes reply out after =
+    put-back max3420eSpi (fillTo 0 (limitOf (e .armed))) (λ s. outcome s 0) (ep3Filled e c) true 3 refl
+    (stores-first (ep3Filled e c) (e .armed)) (λ s. refl) bytes reply out (filling (e .bytes) (e .writepos)) after
+
+-- a register whose read gives a byte of a packet and moves on within it
+read-back : (n : ℕ) → stepRegister n ≡ n → (put : ℕ → Chip) (packet : List ℕ) (byte : ℕ → ℕ)
+    → ((p : ℕ) → p < length packet → byte p ≡ getD packet p 0)
+    → ((p : ℕ) → readAt put (length packet) p (byte p) ≡ max3420eSpi .read n (put p)) → (bytes reply out : List ℕ) (p q : ℕ)
+    → Burst (packetSpi packet) p q false 0 bytes reply out → Burst max3420eSpi (put p) (put q) false n bytes reply out
+read-back n stays put packet byte same rule =
+    put-back max3420eSpi (λ (p b : ℕ). p) (λ (p : ℕ). outcome (positionTo p (length packet)) (getD packet p 0)) put false n stays
+    (λ p b. moves put (length packet) p (byte p) ∙ ap (λ (o : Outcome Chip ℕ). o .state) (rule p))
+    (λ p. gives put packet p (byte p) (same p) ∙ ap (λ (o : Outcome Chip ℕ). o .gives) (rule p))
+
+pub read-ep0 : (c : Chip) (e : Endpoint0) → e .count ≤ length (e .bytes) → (bytes reply out : List ℕ) (q : ℕ)
+    → Burst (packetSpi (take (e .count) (e .bytes))) (e .readpos) q false 0 bytes reply out
+    → Burst max3420eSpi (setEp0 e c) (setEp0 (ep0At q (e .setuppos) e) c) false 0 bytes reply out
+read-ep0 c e within bytes reply out q =
+    let packet = take (e .count) (e .bytes) in
+    let put : ℕ → Chip = λ p. setEp0 (ep0At p (e .setuppos) e) c in
+    let long : length packet ≡ e .count = length-take-le (e .count) (e .bytes) within in
+    read-back 0 refl put packet (λ p. getD (e .bytes) p 0) (λ p l. sym (getD-take (e .count) (e .bytes) p 0 (omega arith)))
+    (λ p. ap (λ (k : ℕ). readAt put k p (getD (e .bytes) p 0)) long) bytes reply out (e .readpos) q
+
+pub read-ep1 : (c : Chip) (e : Endpoint1) → length (oldestPacket 2 (e .ring)) ≡ oldestCount 2 (e .ring) → (bytes reply out : List ℕ) (q : ℕ)
+    → Burst (packetSpi (oldestPacket 2 (e .ring))) (e .readpos) q false 0 bytes reply out
+    → Burst max3420eSpi (setEp1 e c) (setEp1 (record { ring = e .ring; readpos = q; toggle = e .toggle }) c) false 1 bytes reply out
+read-ep1 c e long bytes reply out q =
+    let packet = oldestPacket 2 (e .ring) in
+    let put : ℕ → Chip = λ p. setEp1 (record { ring = e .ring; readpos = p; toggle = e .toggle }) c in
+    read-back 1 refl put packet (λ p. getD packet p 0) (λ p l. refl) (λ p. ap (λ (k : ℕ). readAt put k p (getD packet p 0)) long) bytes reply out
+    (e .readpos) q
+
+pub read-sudfifo : (c : Chip) (e : Endpoint0) → length (e .setup) ≡ 8 → (bytes reply out : List ℕ) (q : ℕ)
+    → Burst (packetSpi (e .setup)) (e .setuppos) q false 0 bytes reply out
+    → Burst max3420eSpi (setEp0 e c) (setEp0 (ep0At (e .readpos) q e) c) false 4 bytes reply out
+read-sudfifo c e long bytes reply out q =
+    let put : ℕ → Chip = λ p. setEp0 (ep0At (e .readpos) p e) c in
+    read-back 4 refl put (e .setup) (λ p. getD (e .setup) p 0) (λ p l. refl) (λ p. ap (λ (k : ℕ). readAt put k p (getD (e .setup) p 0)) long)
+    bytes reply out (e .setuppos) q
