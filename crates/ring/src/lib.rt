@@ -45,7 +45,7 @@ impl Ring {
     }
 
     // The buffer to be filled next.
-    fn next_buffer(self) -> usize
+    pub fn next_buffer(self) -> usize
         ensures { λ r. ⌜ (r ≡ nextBuffer 2 self) × (r < 2) ⌝ }
     {
         (self.oldest as usize + self.waiting as usize) % 2
@@ -61,13 +61,17 @@ impl Ring {
         self
     }
 
-    // The next buffer's first bytes, as they stand, wait.
+    // The next buffer's first bytes, as they stand, wait. Here and in `oldest_count`, two constant places instead of an index keep
+    // the counts out of memory: a ring indexed by a variable is copied whole.
     pub fn arm_next(mut self, count: u8) -> Self
         requires { ⌜ self .waiting < 2 ⌝ }
         ensures { λ r. ⌜ r ≡ armNext 2 self count ⌝ }
     {
-        let buffer = self.next_buffer();
-        self.counts[buffer] = count;
+        if self.next_buffer() == 0 {
+            self.counts[0] = count;
+        } else {
+            self.counts[1] = count;
+        }
         self.waiting = self.waiting + 1;
         self
     }
@@ -87,11 +91,10 @@ impl Ring {
     pub fn release_oldest(mut self) -> Self
         ensures { λ r. ⌜ r ≡ releaseOldest 2 self ⌝ }
     {
-        if self.waiting == 0 {
-            return self;
+        if 0 < self.waiting {
+            self.oldest = ((self.oldest as usize + 1) % 2) as u8;
+            self.waiting = self.waiting - 1;
         }
-        self.oldest = ((self.oldest as usize + 1) % 2) as u8;
-        self.waiting = self.waiting - 1;
         self
     }
 
@@ -101,8 +104,10 @@ impl Ring {
         if self.waiting == 0 {
             return 0;
         }
-        let buffer = (self.oldest % 2) as usize;
-        self.counts[buffer]
+        if self.oldest % 2 == 0 {
+            return self.counts[0];
+        }
+        self.counts[1]
     }
 
     // The byte at a position of the oldest waiting packet, 0 past its end.
