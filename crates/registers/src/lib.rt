@@ -43,7 +43,7 @@ fn write_ep3infifo(mut chip: Chip, byte: u8) -> Chip
 }
 
 // R5
-fn write_ep0bc(mut chip: Chip, byte: u8) -> Chip
+pub fn write_ep0bc(mut chip: Chip, byte: u8) -> Chip
     ensures { λ r. ⌜ r ≡ writeEp0bc chip byte ⌝ }
 {
     let n = byte & Chip::COUNT_BITS;
@@ -73,7 +73,7 @@ fn epirq_armed(epirq: u8, waiting: u8) -> u8
 }
 
 // R7
-fn write_ep2inbc(mut chip: Chip, count: u8) -> Chip
+pub fn write_ep2inbc(mut chip: Chip, count: u8) -> Chip
     ensures { λ r. ⌜ r ≡ writeEp2inbc chip count ⌝ }
 {
     if 64 < count {
@@ -95,7 +95,7 @@ fn write_ep2inbc(mut chip: Chip, count: u8) -> Chip
 }
 
 // R8
-fn write_ep3inbc(mut chip: Chip, n: u8) -> Chip
+pub fn write_ep3inbc(mut chip: Chip, n: u8) -> Chip
     ensures { λ r. ⌜ r ≡ writeEp3inbc chip n ⌝ }
 {
     if 64 < n {
@@ -114,7 +114,7 @@ fn write_ep3inbc(mut chip: Chip, n: u8) -> Chip
 }
 
 // R10
-fn write_clrtogs(mut chip: Chip, byte: u8) -> Chip
+pub fn write_clrtogs(mut chip: Chip, byte: u8) -> Chip
     ensures { λ r. ⌜ r ≡ writeClrtogs chip byte ⌝ }
 {
     let toggle1 = chip.ep1.toggle & (byte & Chip::CTGEP1OUT == 0);
@@ -139,7 +139,7 @@ fn epirq_released(epirq: u8, waiting: u8) -> u8
 }
 
 // R11
-fn write_epirq(mut chip: Chip, byte: u8) -> Chip
+pub fn write_epirq(mut chip: Chip, byte: u8) -> Chip
     ensures { λ r. ⌜ r ≡ writeEpirq chip byte ⌝ }
 {
     let kept = chip.registers.epirq & !(byte & Chip::CLEARED_EPIRQS);
@@ -172,7 +172,7 @@ fn write_usbctl(mut chip: Chip, byte: u8) -> Chip
 }
 
 // R9, R12 to R14, R16, R17 and R20, which change no other part of the record.
-fn write_plain(mut registers: Registers, register: u8, byte: u8) -> Registers
+pub fn write_plain(mut registers: Registers, register: u8, byte: u8) -> Registers
     ensures { λ r. ⌜ ((c : Chip) → setRegisters r c ≡ plainRule register (setRegisters registers c) byte) ⌝ }
 {
     match register {

@@ -6,8 +6,10 @@ use mathlib.Core.List.{List, [], _∷_, _++_}
 use Prim.Native.Nat.{ℕ, suc, _≤_, _<_}
 use native.Mathlib.Omega.{arith}
 use lib.ListN.{length, getD, set, take, drop}
-use borrow.Author.Tests.{eqb-false, ltb-false}
+use borrow.Author.Tests.{eqb-false, ltb-false, not-false}
 use Rattle.bits.specs.Bit.{raised}
+use Rattle.ring.specs.Ring.{oldestCount}
+use Rattle.ring.proofs.Laws.{oldest-small}
 use Rattle.refusal.specs.declared.Refusal.{Refusal}
 use Rattle.chip.specs.declared.Chip.{Chip}
 use Rattle.chip.specs.declared.Pin.{Pin}
@@ -15,6 +17,7 @@ use Rattle.chip.specs.Mask.{ackstat}
 use Rattle.chip.specs.Set.{setEpstalls}
 use Rattle.chip.specs.Sound.{soundChip}
 use Rattle.chip.specs.Pin.{pinOf}
+use Rattle.chip.proofs.Sound.{sound-clauses}
 use Rattle.model.specs.declared.Checked.{Checked}
 use Rattle.model.specs.declared.Checked.the-variants.{Accepted, Refused}
 use Rattle.model.specs.Reply.{lent, replyBytes}
@@ -58,17 +61,26 @@ transfer-length : {R : Type 0} (f : Spi R) (c : R) (xs : List ℕ) → length (t
 transfer-length f c [] = refl
 transfer-length f c (m ∷ bs) = ap suc (burst-length f (commandWrites m) bs (commandTo f c m) (commandRegister m))
 
-pub record Fitting (n room : ℕ) : Type 0 where
+pub record Fitting (c : Chip) (n room : ℕ) : Type 0 where
+  pub ep0 : c .ep0 .count ≤ 64
+  pub ep1 : oldestCount 2 (c .ep1 .ring) ≤ 64
   pub some : 0 < n
   pub few : n ≤ 4096
   pub fits : n ≤ room
 
 -- what an accepted transfer is known to be
-pub fitting : (c : Chip) (n room : ℕ) → check (transferGrounds (soundChip c) n room) ≡ Accepted → Fitting n room
+pub fitting : (c : Chip) (n room : ℕ) → check (transferGrounds (soundChip c) n room) ≡ Accepted → Fitting c n room
 fitting c n room e =
     let none = accepted-none (transferGrounds (soundChip c) n room) e in
+    let sound = sound-clauses c (not-false (soundChip c) (none 0)) in
     let command : n ≡ 0 → ⊥ = eqb-false n 0 (none 1) in
-    record { some = omega arith; few = ltb-false 4096 n (none 2); fits = ltb-false room n (none 3) }
+    record {
+      ep0 = sound .ep0 .count;
+      ep1 = oldest-small 2 (c .ep1 .ring) (sound .ep1 .ring);
+      some = omega arith;
+      few = ltb-false 4096 n (none 2);
+      fits = ltb-false room n (none 3);
+    }
 
 -- ---- the call
 

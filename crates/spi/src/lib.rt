@@ -1,27 +1,26 @@
 // One SPI transfer: the command byte, then the data bytes (document 01, "The SPI side").
 use chip::Chip;
-use chip::Endpoint0;
-use chip::Endpoint2;
-use chip::Endpoint3;
 use chip::Pin;
 use chip::Registers;
 use model::Checked;
 use refusal::Refusal;
+use reset::Reset;
 ghost use mathlib.Core.Path.{_≡_};
 ghost use mathlib.Core.Bool.{true, false, cond};
-ghost use mathlib.Core.List.{_++_};
 ghost use Prim.Native.Nat.{_<_, _≤_};
-ghost use lib.ListN.{length, take, drop};
+ghost use lib.ListN.{length};
 ghost use Rattle.bits.specs.Bit.{raised};
+ghost use Rattle.ring.specs.Ring.{oldestCount};
 ghost use Rattle.chip.specs.Mask.{ackstat};
 ghost use Rattle.chip.specs.Sound.{soundChip};
 ghost use Rattle.chip.specs.Set.{setRegisters};
 ghost use Rattle.model.specs.Reply.{lent};
-ghost use Rattle.model.specs.Spi.{commandAcknowledges, burstTo, burstOf, transferTo, transferOf};
+ghost use Rattle.model.specs.Spi.{commandAcknowledges, transferTo, transferOf};
 ghost use Rattle.model.specs.Call.{Call, transferGrounds, check, checked, checkedNumber, answerOf, bufferAfter};
 ghost use Rattle.rules.specs.Spi.{statusByte, max3420eSpi};
 ghost use Rattle.rules.specs.Event.{max3420e};
-ghost use Rattle.spi.specs.Fifo.{ep0Spi, ep2Spi, ep3Spi};
+ghost use Rattle.bursts.specs.Burst.{Burst};
+ghost use Rattle.spi.specs.Control.{Written, Read};
 ghost use Rattle.spi.specs.Transfer.{transferAnswer, transferRefusal, transferCount, transferredCount};
 
 // Why a transfer is refused, or how many bytes of the lent buffer are its reply.
@@ -65,7 +64,7 @@ fn status_byte(registers: Registers) -> u8
 }
 
 // R9 after the command byte, whose bit 0 sets ACKSTAT.
-fn acknowledged(epstalls: u8, command: u8) -> u8
+pub fn acknowledged(epstalls: u8, command: u8) -> u8
     ensures { λ r. ⌜ r ≡ cond (commandAcknowledges command) (raised ackstat epstalls) epstalls ⌝ }
 {
     if command & 0x01 != 0 {
@@ -74,97 +73,61 @@ fn acknowledged(epstalls: u8, command: u8) -> u8
     epstalls
 }
 
-// The data bytes of a write to R0, on its endpoint.
-fn write_ep0(endpoint: Endpoint0, dav: bool, bytes: &[u8], reply: &mut [u8]) -> Endpoint0
-    requires { ⌜ (0 < length (now bytes)) × (length (now bytes) ≤ length (now reply)) ⌝ }
-    ensures { λ r. ⌜ (r ≡ burstTo (ep0Spi dav) endpoint true 0 (drop 1 (now (bytes .entry))))
-        × (now (reply .exit) ≡ take 1 (now (reply .entry)) ++ burstOf (ep0Spi dav) endpoint true 0 (drop 1 (now (bytes .entry)))
-        ++ drop (length (now (bytes .entry))) (now (reply .entry))) ⌝ }
+// The data bytes of a write from a control register on, one after the other. The record stays in its place: a call that takes and
+// returns it would copy it for each byte.
+fn write_controls(mut chip: Chip, register: u8, bytes: &[u8], reply: &mut [u8]) -> Chip
+    requires { ⌜ Written register × (0 < length (now bytes)) × (length (now bytes) ≤ length (now reply)) ⌝ }
+    ensures { λ r. ⌜ Burst max3420eSpi chip r true register (now (bytes .entry)) (now (reply .entry)) (now (reply .exit)) ⌝ }
 {
-    let mut e = endpoint;
-    let mut i = 1;
-    while i < bytes.len() {
-        e = fifos::store_ep0(e, e.armed | dav, bytes[i]);
-        reply[i] = 0;
-        i += 1;
-    }
-    e
-}
-
-// The data bytes of a write to R2, on its endpoint.
-fn write_ep2(endpoint: Endpoint2, bytes: &[u8], reply: &mut [u8]) -> Endpoint2
-    requires { ⌜ (0 < length (now bytes)) × (length (now bytes) ≤ length (now reply)) ⌝ }
-    ensures { λ r. ⌜ (r ≡ burstTo ep2Spi endpoint true 2 (drop 1 (now (bytes .entry))))
-        × (now (reply .exit) ≡ take 1 (now (reply .entry)) ++ burstOf ep2Spi endpoint true 2 (drop 1 (now (bytes .entry)))
-        ++ drop (length (now (bytes .entry))) (now (reply .entry))) ⌝ }
-{
-    let mut e = endpoint;
-    let mut i = 1;
-    while i < bytes.len() {
-        e = fifos::store_ep2(e, bytes[i]);
-        reply[i] = 0;
-        i += 1;
-    }
-    e
-}
-
-// The data bytes of a write to R3, on its endpoint.
-fn write_ep3(endpoint: Endpoint3, bytes: &[u8], reply: &mut [u8]) -> Endpoint3
-    requires { ⌜ (0 < length (now bytes)) × (length (now bytes) ≤ length (now reply)) ⌝ }
-    ensures { λ r. ⌜ (r ≡ burstTo ep3Spi endpoint true 3 (drop 1 (now (bytes .entry))))
-        × (now (reply .exit) ≡ take 1 (now (reply .entry)) ++ burstOf ep3Spi endpoint true 3 (drop 1 (now (bytes .entry)))
-        ++ drop (length (now (bytes .entry))) (now (reply .entry))) ⌝ }
-{
-    let mut e = endpoint;
-    let mut i = 1;
-    while i < bytes.len() {
-        e = fifos::store_ep3(e, bytes[i]);
-        reply[i] = 0;
-        i += 1;
-    }
-    e
-}
-
-// The data bytes of a write from a control register on, one after the other.
-fn write_controls(chip: Chip, register: u8, bytes: &[u8], reply: &mut [u8]) -> Chip
-    requires { ⌜ (0 < length (now bytes)) × (length (now bytes) ≤ length (now reply)) ⌝ }
-    ensures { λ r. ⌜ (r ≡ burstTo max3420eSpi chip true register (drop 1 (now (bytes .entry))))
-        × (now (reply .exit) ≡ take 1 (now (reply .entry)) ++ burstOf max3420eSpi chip true register (drop 1 (now (bytes .entry)))
-        ++ drop (length (now (bytes .entry))) (now (reply .entry))) ⌝ }
-{
-    let mut c = chip;
     let mut selected = register;
     let mut i = 1;
     while i < bytes.len() {
-        c = registers::write_register(c, selected, bytes[i]);
+        let byte = bytes[i];
+        match selected {
+            5 => chip = registers::write_ep0bc(chip, byte),
+            7 => chip = registers::write_ep2inbc(chip, byte),
+            8 => chip = registers::write_ep3inbc(chip, byte),
+            10 => chip = registers::write_clrtogs(chip, byte),
+            11 => chip = registers::write_epirq(chip, byte),
+            15 => {
+                let before = chip.registers.usbctl;
+                let after = byte & Chip::USBCTL_BITS;
+                chip.registers.usbctl = after;
+                if (before & Chip::CHIPRES == 0) & (after & Chip::CHIPRES != 0) {
+                    chip = reset::chip_after(Reset::ChipReset, chip);
+                }
+            }
+            _ => {
+                let written = registers::write_plain(chip.registers, selected, byte);
+                chip.registers = written;
+            }
+        }
         reply[i] = 0;
         selected = registers::step_register(selected);
         i += 1;
     }
-    c
+    chip
 }
 
-// The data bytes of a write, a FIFO on its endpoint.
+// The data bytes of a write, a FIFO's on its endpoint.
 fn write_burst(mut chip: Chip, register: u8, bytes: &[u8], reply: &mut [u8]) -> Chip
     requires { ⌜ (0 < length (now bytes)) × (length (now bytes) ≤ length (now reply)) ⌝ }
-    ensures { λ r. ⌜ (r ≡ burstTo max3420eSpi chip true register (drop 1 (now (bytes .entry))))
-        × (now (reply .exit) ≡ take 1 (now (reply .entry)) ++ burstOf max3420eSpi chip true register (drop 1 (now (bytes .entry)))
-        ++ drop (length (now (bytes .entry))) (now (reply .entry))) ⌝ }
+    ensures { λ r. ⌜ Burst max3420eSpi chip r true register (now (bytes .entry)) (now (reply .entry)) (now (reply .exit)) ⌝ }
 {
     match register {
         0 => {
             let dav = chip.registers.epirq & Chip::OUT0DAVIRQ != 0;
-            let endpoint = write_ep0(chip.ep0, dav, bytes, reply);
+            let endpoint = bursts::write_ep0(chip.ep0, dav, bytes, reply);
             chip.ep0 = endpoint;
             chip
         }
         2 => {
-            let endpoint = write_ep2(chip.ep2, bytes, reply);
+            let endpoint = bursts::write_ep2(chip.ep2, bytes, reply);
             chip.ep2 = endpoint;
             chip
         }
         3 => {
-            let endpoint = write_ep3(chip.ep3, bytes, reply);
+            let endpoint = bursts::write_ep3(chip.ep3, bytes, reply);
             chip.ep3 = endpoint;
             chip
         }
@@ -172,32 +135,54 @@ fn write_burst(mut chip: Chip, register: u8, bytes: &[u8], reply: &mut [u8]) -> 
     }
 }
 
-// The bytes of a read.
-fn read_burst(chip: Chip, register: u8, bytes: &[u8], reply: &mut [u8]) -> Chip
-    requires { ⌜ (0 < length (now bytes)) × (length (now bytes) ≤ length (now reply)) ⌝ }
-    ensures { λ r. ⌜ (r ≡ burstTo max3420eSpi chip false register (drop 1 (now (bytes .entry))))
-        × (now (reply .exit) ≡ take 1 (now (reply .entry)) ++ burstOf max3420eSpi chip false register (drop 1 (now (bytes .entry)))
-        ++ drop (length (now (bytes .entry))) (now (reply .entry))) ⌝ }
+// The data bytes of a read from a register on whose read moves nothing, one after the other.
+fn read_controls(chip: Chip, register: u8, bytes: &[u8], reply: &mut [u8])
+    requires { ⌜ Read register × (0 < length (now bytes)) × (length (now bytes) ≤ length (now reply)) ⌝ }
+    ensures { λ r. ⌜ Burst max3420eSpi chip chip false register (now (bytes .entry)) (now (reply .entry)) (now (reply .exit)) ⌝ }
 {
-    let mut c = chip;
     let mut selected = register;
-    let end = bytes.len();
     let mut i = 1;
-    while i < end {
-        reply[i] = registers::read_register(c, selected);
-        c = registers::move_register(c, selected);
+    while i < bytes.len() {
+        reply[i] = registers::read_register(chip, selected);
         selected = registers::step_register(selected);
         i += 1;
     }
-    c
+}
+
+// The data bytes of a read, a FIFO's on its endpoint.
+fn read_burst(mut chip: Chip, register: u8, bytes: &[u8], reply: &mut [u8]) -> Chip
+    requires { ⌜ (chip .ep0 .count ≤ 64) × (oldestCount 2 (chip .ep1 .ring) ≤ 64)
+        × (0 < length (now bytes)) × (length (now bytes) ≤ length (now reply)) ⌝ }
+    ensures { λ r. ⌜ Burst max3420eSpi chip r false register (now (bytes .entry)) (now (reply .entry)) (now (reply .exit)) ⌝ }
+{
+    match register {
+        0 => {
+            let endpoint = bursts::read_ep0(chip.ep0, bytes, reply);
+            chip.ep0 = endpoint;
+            chip
+        }
+        1 => {
+            let endpoint = bursts::read_ep1(chip.ep1, bytes, reply);
+            chip.ep1 = endpoint;
+            chip
+        }
+        4 => {
+            let endpoint = bursts::read_setup(chip.ep0, bytes, reply);
+            chip.ep0 = endpoint;
+            chip
+        }
+        _ => {
+            read_controls(chip, register, bytes, reply);
+            chip
+        }
+    }
 }
 
 // The data bytes of a transfer.
 fn burst(chip: Chip, writes: bool, register: u8, bytes: &[u8], reply: &mut [u8]) -> Chip
-    requires { ⌜ (0 < length (now bytes)) × (length (now bytes) ≤ length (now reply)) ⌝ }
-    ensures { λ r. ⌜ (r ≡ burstTo max3420eSpi chip writes register (drop 1 (now (bytes .entry))))
-        × (now (reply .exit) ≡ take 1 (now (reply .entry)) ++ burstOf max3420eSpi chip writes register (drop 1 (now (bytes .entry)))
-        ++ drop (length (now (bytes .entry))) (now (reply .entry))) ⌝ }
+    requires { ⌜ (chip .ep0 .count ≤ 64) × (oldestCount 2 (chip .ep1 .ring) ≤ 64)
+        × (0 < length (now bytes)) × (length (now bytes) ≤ length (now reply)) ⌝ }
+    ensures { λ r. ⌜ Burst max3420eSpi chip r writes register (now (bytes .entry)) (now (reply .entry)) (now (reply .exit)) ⌝ }
 {
     if writes {
         return write_burst(chip, register, bytes, reply);
@@ -207,7 +192,8 @@ fn burst(chip: Chip, writes: bool, register: u8, bytes: &[u8], reply: &mut [u8])
 
 // A transfer that is not refused.
 fn run(mut chip: Chip, bytes: &[u8], reply: &mut [u8]) -> Chip
-    requires { ⌜ (0 < length (now bytes)) × (length (now bytes) ≤ length (now reply)) ⌝ }
+    requires { ⌜ (chip .ep0 .count ≤ 64) × (oldestCount 2 (chip .ep1 .ring) ≤ 64)
+        × (0 < length (now bytes)) × (length (now bytes) ≤ length (now reply)) ⌝ }
     ensures { λ r. ⌜ (r ≡ transferTo max3420eSpi chip (now (bytes .entry)))
         × (now (reply .exit) ≡ lent (transferOf max3420eSpi chip (now (bytes .entry))) (now (reply .entry))) ⌝ }
 {

@@ -1,70 +1,57 @@
--- `read_burst` meets its promise. The law of the byte loop.
-use mathlib.Core.Path.{_≡_, refl}
-use mathlib.Core.Bool.{false}
-use Prim.Native.Nat.{_-_}
-use native.Mathlib.Omega.{arith}
-use lib.ListN.{length}
+-- `read_burst` meets its promise. A FIFO's burst is that of its endpoint, put back; no other register steps to a FIFO.
 use borrow.Author.Needs.{needs}
-use Rattle.model.proofs.Loop.{Turn, start, turn, finish}
-use Rattle.rules.specs.Spi.{max3420eSpi}
 use Rattle.spi.proofs.read_burst.Statement.{statement}
 use Rattle.spi.proofs.read_burst.Tie as tie
 
-abbrev Inv-loop : tie.InvT-loop
-Inv-loop register bytes reply₀ c₀ selected₀ end i₀ reply c selected i =
-    (end ≡ length bytes) × Turn max3420eSpi false bytes reply₀ 1 c₀ selected₀ reply c selected i
+read-ep0-requires : tie.Need-read-ep0-requires
+read-ep0-requires c κs = search needs
 
-abbrev μ-loop : tie.MeasureT-loop
-μ-loop register bytes reply₀ c₀ selected₀ end i₀ reply c selected i = length bytes - i
+read-ep1-requires : tie.Need-read-ep1-requires
+read-ep1-requires c κs = search needs
 
-loop-holds : tie.Need-loop-holds Inv-loop μ-loop
-loop-holds c = (refl, start max3420eSpi _ _ _ _ _ _ (omega arith))
+read-setup-requires : tie.Need-read-setup-requires
+read-setup-requires c κs = search needs
 
-read-register-requires : tie.Need-read-register-requires Inv-loop μ-loop
-read-register-requires c κs = search needs
+read-controls-requires : tie.Need-read-controls-requires
+read-controls-requires c κs = search needs
 
-slice-write-reply : tie.Need-slice-write-reply Inv-loop μ-loop
-slice-write-reply c = search needs
+same-length : tie.Need-same-length
+same-length c = search needs
 
-move-register-requires : tie.Need-move-register-requires Inv-loop μ-loop
-move-register-requires c κs = search needs
+returns : tie.Need-returns
+returns c = rw (c .before .before .before .before .match .keys1) (c .before .before .read-ep0 .ensures (c .before .before .before .before .before .before .before .args .chip))
 
-step-register-requires : tie.Need-step-register-requires Inv-loop μ-loop
-step-register-requires c κs = search needs
+same-length-2 : tie.Need-same-length-2
+same-length-2 c = search needs
 
-add-i : tie.Need-add-i Inv-loop μ-loop
-add-i c = search needs
+returns-2 : tie.Need-returns-2
+returns-2 c = rw (c .before .before .before .before .match .keys2) (c .before .before .read-ep1 .ensures (c .before .before .before .before .before .before .before .args .chip))
 
-loop-less : tie.Need-loop-less Inv-loop μ-loop
-loop-less c = search needs
+same-length-3 : tie.Need-same-length-3
+same-length-3 c = search needs
 
-loop-again : tie.Need-loop-again Inv-loop μ-loop
-loop-again c =
-    let l = c .before .before .before .before .loop in (
-      l .inv .0,
-      rw (c .step-register .ensures, c .before .move-register .ensures, c .before .before .read-register .ensures)
-          (turn max3420eSpi _ _ _ _ _ _ _ _ _ _ (l .inv .1) (omega arith) (omega arith)),
-    )
+returns-3 : tie.Need-returns-3
+returns-3 c = rw (c .before .before .before .before .match .keys3) (c .before .before .read-setup .ensures (c .before .before .before .before .before .before .before .args .chip))
 
-same-length : tie.Need-same-length Inv-loop μ-loop
-same-length c = c .before .loop .inv .1 .sized
+same-length-4 : tie.Need-same-length-4
+same-length-4 c = search needs
 
-returns : tie.Need-returns Inv-loop μ-loop
-returns c = finish max3420eSpi _ _ _ _ _ _ _ _ _ _ (c .before .loop .inv .1) (omega arith)
+returns-4 : tie.Need-returns-4
+returns-4 c = search needs
 
 pub read-burst-spec : {M : Type 1} → statement M
 read-burst-spec =
     tie.close
     (tie.spec
-    Inv-loop
-    μ-loop
-    loop-holds
-    read-register-requires
-    slice-write-reply
-    move-register-requires
-    step-register-requires
-    add-i
-    loop-less
-    loop-again
+    read-ep0-requires
+    read-ep1-requires
+    read-setup-requires
+    read-controls-requires
     same-length
-    returns)
+    returns
+    same-length-2
+    returns-2
+    same-length-3
+    returns-3
+    same-length-4
+    returns-4)

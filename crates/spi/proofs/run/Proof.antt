@@ -32,8 +32,8 @@ returns c =
     let acked = acknowledge-part (a .chip) (getD (now (a .bytes)) 0 0) in
     rw (c .status-byte .ensures (a .chip))
     (whole max3420eSpi (a .chip) _ (now (a .bytes)) (now (a .reply)) _
-    (c .before .before .before .before .before .before .before .before .before .before .before .pre .0)
-    (c .before .before .before .before .before .before .before .before .before .before .before .pre .1)
+    (c .before .before .before .before .before .before .before .before .before .before .before .pre .2)
+    (c .before .before .before .before .before .before .before .before .before .before .before .pre .3)
     (c .before .before .before .burst .ensures .0 ∙ rw
     (c .before .before .before .before .before .before .acknowledged .ensures, acked))
     (c .before .before .before .burst .ensures .1 ∙ rw

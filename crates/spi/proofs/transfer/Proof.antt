@@ -25,7 +25,7 @@ run-requires c κs =
     let a = c .before .before .before .before .before .before .args in
     let f = fitting (a .chip) (length (now (a .bytes))) (length (now (a .reply)))
     (sym (c .before .before .before .check .ensures) ∙ c .before .enum-told .given .1) in
-    (f .some, f .fits)
+    (f .ep0, f .ep1, f .some, f .fits)
 
 cast-t15 : tie.Need-cast-t15
 cast-t15 c =
