@@ -141,8 +141,9 @@ fn read_controls(chip: Chip, register: u8, bytes: &[u8], reply: &mut [u8])
     ensures { λ r. ⌜ Burst max3420eSpi chip chip false register (now (bytes .entry)) (now (reply .entry)) (now (reply .exit)) ⌝ }
 {
     let mut selected = register;
+    let end = bytes.len();
     let mut i = 1;
-    while i < bytes.len() {
+    while i < end {
         reply[i] = registers::read_register(chip, selected);
         selected = registers::step_register(selected);
         i += 1;

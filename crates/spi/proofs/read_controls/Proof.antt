@@ -1,5 +1,5 @@
 -- `read_controls` meets its promise. The law of the byte loop, at registers whose read moves nothing (`kept`).
-use mathlib.Core.Path.{_≡_}
+use mathlib.Core.Path.{_≡_, refl}
 use mathlib.Core.Bool.{false}
 use Prim.Native.Nat.{_-_}
 use native.Mathlib.Omega.{arith}
@@ -13,14 +13,14 @@ use Rattle.spi.proofs.read_controls.Statement.{statement}
 use Rattle.spi.proofs.read_controls.Tie as tie
 
 abbrev Inv-loop : tie.InvT-loop
-Inv-loop chip register bytes reply₀ selected₀ i₀ reply selected i =
-    Read selected × Turn max3420eSpi false bytes reply₀ 1 chip selected₀ reply chip selected i
+Inv-loop chip register bytes reply₀ selected₀ end i₀ reply selected i =
+    (end ≡ length bytes) × Read selected × Turn max3420eSpi false bytes reply₀ 1 chip selected₀ reply chip selected i
 
 abbrev μ-loop : tie.MeasureT-loop
-μ-loop chip register bytes reply₀ selected₀ i₀ reply selected i = length bytes - i
+μ-loop chip register bytes reply₀ selected₀ end i₀ reply selected i = length bytes - i
 
 loop-holds : tie.Need-loop-holds Inv-loop μ-loop
-loop-holds c = (c .before .before .pre .0, start max3420eSpi _ _ _ _ _ _ (omega arith))
+loop-holds c = (refl, c .before .before .pre .0, start max3420eSpi _ _ _ _ _ _ (omega arith))
 
 read-register-requires : tie.Need-read-register-requires Inv-loop μ-loop
 read-register-requires c κs = search needs
@@ -41,16 +41,17 @@ loop-again : tie.Need-loop-again Inv-loop μ-loop
 loop-again c =
     let l = c .before .before .before .loop in
     let d = c .before .before .before .before .before .before .args .chip in
-    let t = turn max3420eSpi _ _ _ _ _ _ _ _ _ _ (l .inv .1) (omega arith) (omega arith) in (
-      rw (c .step-register .ensures) (read-step (l .selected) (l .inv .0)),
-      rw (c .step-register .ensures, c .before .read-register .ensures) (rw (← kept d (l .selected) (l .inv .0)) at t),
+    let t = turn max3420eSpi _ _ _ _ _ _ _ _ _ _ (l .inv .2) (omega arith) (omega arith) in (
+      l .inv .0,
+      rw (c .step-register .ensures) (read-step (l .selected) (l .inv .1)),
+      rw (c .step-register .ensures, c .before .read-register .ensures) (rw (← kept d (l .selected) (l .inv .1)) at t),
     )
 
 same-length : tie.Need-same-length Inv-loop μ-loop
-same-length c = c .before .loop .inv .1 .sized
+same-length c = c .before .loop .inv .2 .sized
 
 returns : tie.Need-returns Inv-loop μ-loop
-returns c = finish max3420eSpi _ _ _ _ _ _ _ _ _ _ (c .before .loop .inv .1) (c .loop-test .left)
+returns c = finish max3420eSpi _ _ _ _ _ _ _ _ _ _ (c .before .loop .inv .2) (omega arith)
 
 pub read-controls-spec : {M : Type 1} → statement M
 read-controls-spec =
