@@ -95,13 +95,14 @@ ep0Filled e c s =
       current = e .current;
     }) c
 
-pub written-ep0 : (c : Chip) (e : Endpoint0) (dav : Bool) (bytes reply out : List ℕ) (after : Filling) → has (c .registers .epirq) out0davirq
-    ≡ dav
+pub written-ep0 : (c : Chip) (e : Endpoint0) (dav : Bool) (bytes reply out : List ℕ) (after : Filling)
+    → has (c .registers .epirq) out0davirq ≡ dav
     → Burst (fillingSpi 0 (limitOf (e .armed || dav))) (filling (e .bytes) (e .writepos)) after true 0 bytes reply out
     → Burst max3420eSpi (setEp0 e c) (ep0Filled e c after) true 0 bytes reply out
 written-ep0 c e dav bytes reply out after same =
     put-back max3420eSpi (fillTo 0 (limitOf (e .armed || dav))) (λ s. outcome s 0) (ep0Filled e c) true 0 refl
-    (λ s b. rw same (stores-first (ep0Filled e c) (e .armed || dav) s b)) (λ s. refl) bytes reply out (filling (e .bytes) (e .writepos)) after
+    (λ s b. rw same (stores-first (ep0Filled e c) (e .armed || dav) s b)) (λ s. refl) bytes reply out
+    (filling (e .bytes) (e .writepos)) after
 
 abbrev ep3Filled : Endpoint3 → Chip → Filling → Chip
 ep3Filled e c s =
@@ -140,13 +141,13 @@ pub read-ep1 : (c : Chip) (e : Endpoint1) → length (oldestPacket 2 (e .ring)) 
 read-ep1 c e long bytes reply out q =
     let packet = oldestPacket 2 (e .ring) in
     let put : ℕ → Chip = λ p. setEp1 (record { ring = e .ring; readpos = p; toggle = e .toggle }) c in
-    read-back 1 refl put packet (λ p. getD packet p 0) (λ p l. refl) (λ p. ap (λ (k : ℕ). readAt put k p (getD packet p 0)) long) bytes reply out
-    (e .readpos) q
+    read-back 1 refl put packet (λ p. getD packet p 0) (λ p l. refl) (λ p. ap (λ (k : ℕ). readAt put k p (getD packet p 0)) long) bytes
+    reply out (e .readpos) q
 
 pub read-sudfifo : (c : Chip) (e : Endpoint0) → length (e .setup) ≡ 8 → (bytes reply out : List ℕ) (q : ℕ)
     → Burst (packetSpi (e .setup)) (e .setuppos) q false 0 bytes reply out
     → Burst max3420eSpi (setEp0 e c) (setEp0 (ep0At (e .readpos) q e) c) false 4 bytes reply out
 read-sudfifo c e long bytes reply out q =
     let put : ℕ → Chip = λ p. setEp0 (ep0At (e .readpos) p e) c in
-    read-back 4 refl put (e .setup) (λ p. getD (e .setup) p 0) (λ p l. refl) (λ p. ap (λ (k : ℕ). readAt put k p (getD (e .setup) p 0)) long)
-    bytes reply out (e .setuppos) q
+    read-back 4 refl put (e .setup) (λ p. getD (e .setup) p 0) (λ p l. refl)
+    (λ p. ap (λ (k : ℕ). readAt put k p (getD (e .setup) p 0)) long) bytes reply out (e .setuppos) q

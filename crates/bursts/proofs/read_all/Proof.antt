@@ -50,7 +50,9 @@ same-length : tie.Need-same-length Inv-loop μ-loop
 same-length c = c .before .loop .inv .1 .sized
 
 returns : tie.Need-returns Inv-loop μ-loop
-returns c = finish (packetSpi (c .before .before .before .before .before .args .packet .now)) _ _ _ _ _ _ _ _ _ _ (c .before .loop .inv .1) (c .loop-test .left)
+returns c =
+    let f = packetSpi (c .before .before .before .before .before .args .packet .now) in
+    finish f _ _ _ _ _ _ _ _ _ _ (c .before .loop .inv .1) (c .loop-test .left)
 
 pub read-all-spec : {M : Type 1} → statement M
 read-all-spec =

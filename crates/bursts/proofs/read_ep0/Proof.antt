@@ -1,5 +1,6 @@
 -- `read_ep0` meets its promise. The burst on the packet, put back, is the burst on the record (`read-ep0`).
 use mathlib.Core.Path.{_≡_, sym}
+use Prim.Native.Nat.{_≤_}
 use native.Mathlib.Omega.{arith}
 use lib.ListN.{length}
 use lib.Seq.{length-take-le}
@@ -38,7 +39,8 @@ returns c d =
     let a = c .before .before .before .before .before .before .before .before .before .args in
     let s = c .before .before .read-all in
     let long : length (a .endpoint .bytes) ≡ 64 = search needs in
-    read-ep0 d (a .endpoint) (omega (arith, c .before .before .before .before .before .before .before .before .before .pre .0)) (now (a .bytes)) (now (a .reply)) (s .last .1 .1 .1 .0) (s .result) (s .ensures)
+    let within : a .endpoint .count ≤ length (a .endpoint .bytes) = omega (arith, c .before .before .before .before .before .before .before .before .before .pre .0) in
+    read-ep0 d (a .endpoint) within (now (a .bytes)) (now (a .reply)) (s .last .1 .1 .1 .0) (s .result) (s .ensures)
 
 pub read-ep0-spec : {M : Type 1} → statement M
 read-ep0-spec =

@@ -31,8 +31,8 @@ returns : tie.Need-returns
 returns c d dav =
     let a = c .before .before .before .before .before .before .before .before .before .before .before .args in
     let s = c .before .before .before .store-all in
-    written-ep0 d (a .endpoint) (a .dav) (now (a .bytes)) (now (a .reply)) (s .last .1 .1 .1 .1 .1 .0) (filling (s .last .0) (s .result)) dav
-    (rw (c .before .before .before .before .before .before .limit-of .ensures .0) at (s .ensures))
+    written-ep0 d (a .endpoint) (a .dav) (now (a .bytes)) (now (a .reply)) (s .last .1 .1 .1 .1 .1 .0)
+    (filling (s .last .0) (s .result)) dav (rw (c .before .before .before .before .before .before .limit-of .ensures .0) at (s .ensures))
 
 pub write-ep0-spec : {M : Type 1} → statement M
 write-ep0-spec =

@@ -23,7 +23,8 @@ slice-aggregate-store-all c = search needs
 
 store-all-requires : tie.Need-store-all-requires
 store-all-requires c κs =
-    let long : length (c .before .before .before .before .before .before .before .before .before .args .endpoint .ring .bytes) ≡ 128 = search needs in (
+    let a = c .before .before .before .before .before .before .before .before .before .args in
+    let long : length (a .endpoint .ring .bytes) ≡ 128 = search needs in (
       omega (arith, c .before .before .before .before .before .next-buffer .ensures .1, c .before .before .before .limit-of .ensures .1),
       c .before .before .before .limit-of .ensures .1,
       c .before .before .before .before .before .before .before .before .before .pre .0,
@@ -37,7 +38,9 @@ returns : tie.Need-returns
 returns c d =
     let a = c .before .before .before .before .before .before .before .before .before .before .before .before .before .args in
     let s = c .before .before .before .store-all in
-    let done = rw (c .before .before .before .before .before .before .before .limit-of .ensures .0, c .before .before .before .before .before .before .before .before .before .next-buffer .ensures .0) at (s .ensures) in
+    let limit = c .before .before .before .before .before .before .before .limit-of in
+    let next = c .before .before .before .before .before .before .before .before .before .next-buffer in
+    let done = rw (limit .ensures .0, next .ensures .0) at (s .ensures) in
     written-ep2 d (a .endpoint) (now (a .bytes)) (now (a .reply)) (s .last .1 .1 .1 .1 .1 .0) (filling (s .last .0) (s .result)) done
 
 pub write-ep2-spec : {M : Type 1} → statement M

@@ -19,19 +19,25 @@ same-length : tie.Need-same-length
 same-length c = search needs
 
 returns : tie.Need-returns
-returns c = rw (c .before .before .before .before .match .keys1) (c .before .before .read-ep0 .ensures (c .before .before .before .before .before .before .before .args .chip))
+returns c =
+    let d = c .before .before .before .before .before .before .before .args .chip in
+    rw (c .before .before .before .before .match .keys1) (c .before .before .read-ep0 .ensures d)
 
 same-length-2 : tie.Need-same-length-2
 same-length-2 c = search needs
 
 returns-2 : tie.Need-returns-2
-returns-2 c = rw (c .before .before .before .before .match .keys2) (c .before .before .read-ep1 .ensures (c .before .before .before .before .before .before .before .args .chip))
+returns-2 c =
+    let d = c .before .before .before .before .before .before .before .args .chip in
+    rw (c .before .before .before .before .match .keys2) (c .before .before .read-ep1 .ensures d)
 
 same-length-3 : tie.Need-same-length-3
 same-length-3 c = search needs
 
 returns-3 : tie.Need-returns-3
-returns-3 c = rw (c .before .before .before .before .match .keys3) (c .before .before .read-setup .ensures (c .before .before .before .before .before .before .before .args .chip))
+returns-3 c =
+    let d = c .before .before .before .before .before .before .before .args .chip in
+    rw (c .before .before .before .before .match .keys3) (c .before .before .read-setup .ensures d)
 
 same-length-4 : tie.Need-same-length-4
 same-length-4 c = search needs
