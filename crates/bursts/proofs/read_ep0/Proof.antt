@@ -39,7 +39,8 @@ returns c d =
     let a = c .before .before .before .before .before .before .before .before .before .args in
     let s = c .before .before .read-all in
     let long : length (a .endpoint .bytes) ≡ 64 = search needs in
-    let within : a .endpoint .count ≤ length (a .endpoint .bytes) = omega (arith, c .before .before .before .before .before .before .before .before .before .pre .0) in
+    let pre = c .before .before .before .before .before .before .before .before .before .pre in
+    let within : a .endpoint .count ≤ length (a .endpoint .bytes) = omega (arith, pre .0) in
     read-ep0 d (a .endpoint) within (now (a .bytes)) (now (a .reply)) (s .last .1 .1 .1 .0) (s .result) (s .ensures)
 
 pub read-ep0-spec : {M : Type 1} → statement M

@@ -54,7 +54,8 @@ returns c d =
     let count : (start + n .result) - start ≡ oldestCount 2 r = omega (arith, n .ensures) in
     let same : take ((start + n .result) - start) (drop start (r .bytes)) ≡ oldestPacket 2 r =
     ap (λ (k : ℕ). take k (drop start (r .bytes))) count in
-    let whole = packet-length (r .bytes) (r .oldest % 2) (oldestCount 2 r) (omega (arith, c .before .before .before .before .before .before .before .before .before .before .before .before .pre .0)) in
+    let pre = c .before .before .before .before .before .before .before .before .before .before .before .before .pre in
+    let whole = packet-length (r .bytes) (r .oldest % 2) (oldestCount 2 r) (omega (arith, pre .0)) in
     read-ep1 d (a .endpoint) whole (now (a .bytes)) (now (a .reply)) (s .last .1 .1 .1 .0) (s .result) (rw same at (s .ensures))
 
 pub read-ep1-spec : {M : Type 1} → statement M
