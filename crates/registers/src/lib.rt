@@ -1,5 +1,7 @@
 // One register of the record: a byte written, a byte read, and the register that is selected next (document 01, "The SPI side").
 use chip::Chip;
+use chip::Endpoint1;
+use chip::Endpoint2;
 use chip::Registers;
 use reset::Reset;
 ghost use mathlib.Core.Path.{_≡_};
@@ -47,18 +49,14 @@ pub fn write_ep0bc(mut chip: Chip, byte: u8) -> Chip
     ensures { λ r. ⌜ r ≡ writeEp0bc chip byte ⌝ }
 {
     let n = byte & Chip::COUNT_BITS;
-    if 64 < n {
-        return chip;
-    }
     let epirq = chip.registers.epirq;
-    if chip.ep0.armed | (epirq & Chip::OUT0DAVIRQ != 0) {
-        return chip;
+    if (n <= 64) & !(chip.ep0.armed | (epirq & Chip::OUT0DAVIRQ != 0)) {
+        chip.ep0.count = n;
+        chip.ep0.armed = true;
+        chip.ep0.writepos = 0;
+        let kept = epirq & !Chip::IN0BAVIRQ;
+        chip.registers.epirq = kept;
     }
-    chip.ep0.count = n;
-    chip.ep0.armed = true;
-    chip.ep0.writepos = 0;
-    let kept = epirq & !Chip::IN0BAVIRQ;
-    chip.registers.epirq = kept;
     chip
 }
 
@@ -76,21 +74,20 @@ fn epirq_armed(epirq: u8, waiting: u8) -> u8
 pub fn write_ep2inbc(mut chip: Chip, count: u8) -> Chip
     ensures { λ r. ⌜ r ≡ writeEp2inbc chip count ⌝ }
 {
-    if 64 < count {
-        return chip;
+    let old = chip.ep2.ring;
+    if (count <= 64) & (old.waiting < 2) {
+        let new = old.arm_next(count);
+        // A literal, as in R11, not a changed copy: of what stays, nothing is moved.
+        let armed = Endpoint2 {
+            ring: new,
+            count,
+            writepos: 0,
+            toggle: chip.ep2.toggle,
+        };
+        chip.ep2 = armed;
+        let epirq = epirq_armed(chip.registers.epirq, new.waiting);
+        chip.registers.epirq = epirq;
     }
-    let mut endpoint = chip.ep2;
-    let old = endpoint.ring;
-    if 2 <= old.waiting {
-        return chip;
-    }
-    let new = old.arm_next(count);
-    endpoint.ring = new;
-    endpoint.count = count;
-    endpoint.writepos = 0;
-    chip.ep2 = endpoint;
-    let epirq = epirq_armed(chip.registers.epirq, new.waiting);
-    chip.registers.epirq = epirq;
     chip
 }
 
@@ -98,18 +95,13 @@ pub fn write_ep2inbc(mut chip: Chip, count: u8) -> Chip
 pub fn write_ep3inbc(mut chip: Chip, n: u8) -> Chip
     ensures { λ r. ⌜ r ≡ writeEp3inbc chip n ⌝ }
 {
-    if 64 < n {
-        return chip;
+    if (n <= 64) & !chip.ep3.armed {
+        chip.ep3.count = n;
+        chip.ep3.armed = true;
+        chip.ep3.writepos = 0;
+        let kept = chip.registers.epirq & !Chip::IN3BAVIRQ;
+        chip.registers.epirq = kept;
     }
-    if chip.ep3.armed {
-        return chip;
-    }
-    let epirq = chip.registers.epirq;
-    chip.ep3.count = n;
-    chip.ep3.armed = true;
-    chip.ep3.writepos = 0;
-    let kept = epirq & !Chip::IN3BAVIRQ;
-    chip.registers.epirq = kept;
     chip
 }
 
@@ -145,15 +137,16 @@ pub fn write_epirq(mut chip: Chip, byte: u8) -> Chip
     let kept = chip.registers.epirq & !(byte & Chip::CLEARED_EPIRQS);
     chip.registers.epirq = kept;
     if byte & Chip::OUT1DAVIRQ != 0 {
-        let mut endpoint = chip.ep1;
-        let old = endpoint.ring;
+        let old = chip.ep1.ring;
         let new = old.release_oldest();
-        endpoint.ring = new;
-        endpoint.readpos = 0;
-        chip.ep1 = endpoint;
+        let released = Endpoint1 {
+            ring: new,
+            readpos: 0,
+            toggle: chip.ep1.toggle,
+        };
+        chip.ep1 = released;
         let epirq = epirq_released(kept, new.waiting);
         chip.registers.epirq = epirq;
-        return chip;
     }
     chip
 }

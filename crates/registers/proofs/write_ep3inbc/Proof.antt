@@ -1,16 +1,17 @@
--- `write_ep3inbc` meets its promise. The two tests of the code are the definition's.
-use borrow.Author.Tests.{le-ltb, lt-ltb}
+-- `write_ep3inbc` meets its promise. The test of the code is the definition's two (`arm-if`).
+use mathlib.Core.Bool.{true, false}
+use mathlib.Core.Path.{refl}
+use Rattle.registers.proofs.Part.{arm-if}
 use Rattle.registers.proofs.write_ep3inbc.Statement.{statement}
 use Rattle.registers.proofs.write_ep3inbc.Tie as tie
 
 returns : tie.Need-returns
-returns c = rw (lt-ltb _ _ (c .if1 .taken))
+returns c =
+    let a = c .before .before .before .before .before .before .before .args in
+    arm-if (a .n) (a .chip .ep3 .armed) _ true _ _ refl (c .before .before .before .before .before .if1 .taken)
 
 returns-2 : tie.Need-returns-2
-returns-2 c = rw (le-ltb _ _ (c .before .if1 .left), c .if2 .taken)
-
-returns-3 : tie.Need-returns-3
-returns-3 c = rw (le-ltb _ _ (c .before .before .before .before .before .if1 .left), c .before .before .before .before .if2 .left)
+returns-2 c = arm-if (c .before .before .args .n) (c .before .before .args .chip .ep3 .armed) _ false _ _ refl (c .if1 .left)
 
 pub write-ep3inbc-spec : {M : Type 1} → statement M
-write-ep3inbc-spec = tie.close (tie.spec returns returns-2 returns-3)
+write-ep3inbc-spec = tie.close (tie.spec returns returns-2)

@@ -13,10 +13,9 @@ epirq-released-requires c κs = search needs
 returns : tie.Need-returns
 returns c =
     rw (
-      ne-eqb _ _ (c .before .before .before .before .before .if1 .taken),
+      ne-eqb _ _ (c .before .before .before .before .if1 .taken),
       c .before .epirq-released .ensures,
-      c .before .before
-          .release-oldest .ensures,
+      c .before .before .release-oldest .ensures,
     )
 
 returns-2 : tie.Need-returns-2
