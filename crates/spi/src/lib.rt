@@ -65,7 +65,7 @@ fn status_byte(registers: Registers) -> u8
 }
 
 // R9 after the command byte, whose bit 0 sets ACKSTAT.
-fn acknowledged(epstalls: u8, command: u8) -> u8
+pub fn acknowledged(epstalls: u8, command: u8) -> u8
     ensures { λ r. ⌜ r ≡ cond (commandAcknowledges command) (raised ackstat epstalls) epstalls ⌝ }
 {
     if command & 0x01 != 0 {
