@@ -1,4 +1,5 @@
 pub mod Setup
+pub mod Sends
 pub mod Theorem
 pub mod Enumeration
 pub mod Message

@@ -13,8 +13,10 @@ ghost use mathlib.Core.Bool.{true};
 ghost use Prim.Native.Nat.{_+_, _≤_};
 ghost use lib.ListN.{length, take};
 ghost use mathlib.Core.List.{[], _∷_};
+ghost use Rattle.chip.specs.Sound.{soundChip};
 ghost use Rattle.firmware.specs.Answer.{requestCount, handled};
 ghost use Rattle.request.specs.Record.{soundFirmware};
+ghost use Rattle.model.specs.Spi.{commandWrites};
 ghost use Rattle.model.specs.Call.{Call, callTo, runTo, bufferAfter, checkedNumber};
 ghost use Rattle.spi.specs.Transfer.{transferRefusal, transferCount, transferredCount};
 ghost use Rattle.bus.specs.EventCall.{eventRefusal, eventPid, eventCount, answerPid, answerCount};
@@ -76,24 +78,24 @@ impl Board {
     }
 }
 
-// A command byte and one data byte.
-fn send(chip: Chip, command: u8, byte: u8) -> Chip
+// A command byte that writes a register, and one data byte: as the transfer, which a sound record does not refuse.
+fn send(mut chip: Chip, command: u8, byte: u8) -> Chip
+    requires { ⌜ (soundChip chip ≡ true) × (commandWrites command ≡ true) ⌝ }
     ensures { λ r. ⌜ r ≡ callTo max3420e chip (sends (command ∷ byte ∷ [])) ⌝ }
 {
-    let message = [command, byte];
-    let mut reply = [0u8; 2];
-    let answer = spi::transfer(chip, &message, &mut reply);
-    answer.chip
+    let epstalls = spi::acknowledged(chip.registers.epstalls, command);
+    chip.registers.epstalls = epstalls;
+    registers::write_register(chip, command / 8, byte)
 }
 
 // `91`: the command byte alone sets ACKSTAT.
-fn acknowledge(chip: Chip) -> Chip
+fn acknowledge(mut chip: Chip) -> Chip
+    requires { ⌜ soundChip chip ≡ true ⌝ }
     ensures { λ r. ⌜ r ≡ callTo max3420e chip (sends (0x91 ∷ [])) ⌝ }
 {
-    let message = [0x91];
-    let mut reply = [0u8; 1];
-    let answer = spi::transfer(chip, &message, &mut reply);
-    answer.chip
+    let epstalls = spi::acknowledged(chip.registers.epstalls, 0x91);
+    chip.registers.epstalls = epstalls;
+    chip
 }
 
 // What R4 read, after reply byte 0.
@@ -104,6 +106,7 @@ struct SetupRead {
 
 // `5A 20`, then eight bytes by R4.
 fn read_setup(chip: Chip) -> SetupRead
+    requires { ⌜ soundChip chip ≡ true ⌝ }
     ensures { λ r. ⌜ (r .chip ≡ callTo max3420e (callTo max3420e chip clearsSudav) readsSetup) × (r .reply ≡ setupAnswer chip) ⌝ }
 {
     let cleared = send(chip, 0x5a, 0x20);
@@ -123,6 +126,7 @@ fn stall_byte(epstalls: u8) -> u8
 
 // R9 and R10 for halts and toggles.
 fn write_both(chip: Chip, endpoints: Endpoints, epstalls: u8, clrtogs: u8) -> Chip
+    requires { ⌜ soundChip chip ≡ true ⌝ }
     ensures { λ r. ⌜ r ≡ runTo max3420e chip (writesBoth endpoints epstalls clrtogs) ⌝ }
 {
     let r9 = firmware::epstalls(endpoints, epstalls);
@@ -132,6 +136,7 @@ fn write_both(chip: Chip, endpoints: Endpoints, epstalls: u8, clrtogs: u8) -> Ch
 }
 
 fn write_endpoints(chip: Chip, endpoints: Endpoints, epstalls: u8, clrtogs: u8) -> Chip
+    requires { ⌜ soundChip chip ≡ true ⌝ }
     ensures { λ r. ⌜ r ≡ runTo max3420e chip (writesEndpoints endpoints epstalls clrtogs) ⌝ }
 {
     match endpoints {
@@ -167,7 +172,7 @@ fn fill(chip: Chip, bytes: &[u8], n: usize) -> Chip
 
 // Data: bytes to R0, then `2B n`.
 fn send_data(chip: Chip, bytes: &[u8], n: u8) -> Chip
-    requires { ⌜ (n ≤ 64) × (64 ≤ length (now bytes)) ⌝ }
+    requires { ⌜ (soundChip chip ≡ true) × (n ≤ 64) × (64 ≤ length (now bytes)) ⌝ }
     ensures { λ r. ⌜ r ≡ runTo max3420e chip (sends (0x02 ∷ take n (now (bytes .entry))) ∷ sends (0x2b ∷ n ∷ []) ∷ []) ⌝ }
 {
     let filled = fill(chip, bytes, n as usize);
@@ -183,7 +188,7 @@ fn serve_reply(
     clrtogs: u8,
     bytes: &[u8],
 ) -> Chip
-    requires { ⌜ (requestCount reply ≤ 64) × (64 ≤ length (now bytes)) ⌝ }
+    requires { ⌜ (soundChip chip ≡ true) × (requestCount reply ≤ 64) × (64 ≤ length (now bytes)) ⌝ }
     ensures { λ r. ⌜ r ≡ runTo max3420e chip (serves reply endpoints (now (bytes .entry)) epstalls clrtogs) ⌝ }
 {
     match reply {
@@ -201,7 +206,7 @@ struct Served {
 }
 
 fn serve(board: Board, reply: &mut [u8]) -> Served
-    requires { ⌜ (soundFirmware (board .firmware) ≡ true) × (64 ≤ length (now reply)) ⌝ }
+    requires { ⌜ (soundChip (board .chip) ≡ true) × (soundFirmware (board .firmware) ≡ true) × (64 ≤ length (now reply)) ⌝ }
     ensures { λ r. ⌜ (r .board .chip ≡ runTo max3420e (board .chip) (setupCalls (board .chip) (board .firmware)))
         × (r .board .firmware ≡ served (board .chip) (board .firmware) .answer .firmware)
         × (r .reply ≡ served (board .chip) (board .firmware) .answer .reply)

@@ -8,5 +8,6 @@ pub mod Outs
 pub mod Ins
 pub mod Lawful
 pub mod Theorem
+pub mod Sound
 pub mod Single
 pub mod Bench

@@ -1,29 +1,27 @@
-use mathlib.Core.Path.{ap}
+use mathlib.Core.Path.{_∙_}
+use Rattle.spi.proofs.Call.{acknowledge-part}
+use Rattle.board.proofs.Sends.{sends-write}
 use borrow.Author.Needs.{needs}
-use Rattle.spi.specs.declared.TransferAnswer.{TransferAnswer}
 use Rattle.board.proofs.send.Statement.{statement}
 use Rattle.board.proofs.send.Tie as tie
 use Rattle.board.proofs.send.Reads as reads
 use Rattle.board.proofs.send.Lts as lts
-use Rattle.spi.proofs.transfer.Reads as transfer-reads
+use Rattle.registers.proofs.write_register.Reads as write-register-reads
+use Rattle.spi.proofs.acknowledged.Reads as acknowledged-reads
 
--- src/lib.rt:79:38
-slice-aggregate-transfer : tie.Need-slice-aggregate-transfer
-slice-aggregate-transfer c = search needs
+acknowledged-requires : tie.Need-acknowledged-requires
+acknowledged-requires c κs = search needs
 
--- src/lib.rt:79:48
-slice-aggregate-transfer-2 : tie.Need-slice-aggregate-transfer-2
-slice-aggregate-transfer-2 c = search needs
+write-register-requires : tie.Need-write-register-requires
+write-register-requires c κs = search needs
 
--- src/lib.rt:79:9
-transfer-requires : tie.Need-transfer-requires
-transfer-requires c κs = search needs
-
--- src/lib.rt:74:1
 returns : tie.Need-returns
-returns c = ap (λ (a : TransferAnswer). a .chip) (c .before .before .transfer .ensures .0)
+returns c =
+    let p = c .before .before .before in
+    let a = p .args in
+    c .write-register .ensures
+    ∙ rw (c .before .before .acknowledged .ensures, acknowledge-part (a .chip) (a .command))
+    (sends-write (a .chip) (p .pre .0) (a .command) (a .byte) (p .pre .1))
 
 pub send-spec : {M : Type 1} → statement M
-send-spec =
-    tie.close
-    (tie.spec slice-aggregate-transfer slice-aggregate-transfer-2 transfer-requires returns)
+send-spec = tie.close (tie.spec acknowledged-requires write-register-requires returns)

@@ -1,4 +1,8 @@
+use mathlib.Core.Path.{refl, ap, _∙_}
+use mathlib.Core.List.{[], _∷_}
+use Rattle.chip.specs.Sound.{soundChip}
 use Rattle.model.specs.Call.{runTo}
+use Rattle.rules.proofs.Sound.{stays-sound}
 use borrow.Author.Needs.{needs}
 use Rattle.board.proofs.send_data.Statement.{statement}
 use Rattle.board.proofs.send_data.Tie as tie
@@ -11,7 +15,10 @@ fill-requires : tie.Need-fill-requires
 fill-requires c κs = search needs
 
 send-requires : tie.Need-send-requires
-send-requires c κs = search needs
+unfolding runTo
+send-requires c κs =
+    let p = c .before .before in
+    (ap soundChip (c .fill .ensures) ∙ stays-sound (p .args .chip) (p .good .0) (p .pre .0) (_ ∷ []), refl)
 
 returns : tie.Need-returns
 unfolding runTo

@@ -1,9 +1,11 @@
 use mathlib.Core.Path.{refl, sym, ap, _∙_}
 use mathlib.Core.List.{[], _∷_}
 use Rattle.chip.specs.declared.Chip.{Chip}
+use Rattle.chip.specs.Sound.{soundChip}
 use Rattle.model.specs.Call.{callTo, runTo}
 use Rattle.model.proofs.Runs.{run-append}
 use Rattle.rules.specs.Event.{max3420e}
+use Rattle.rules.proofs.Sound.{stays-sound}
 use Rattle.board.specs.Step.{sends, writesEndpoints}
 use borrow.Author.Needs.{needs}
 use Rattle.board.proofs.serve_reply.Statement.{statement}
@@ -35,13 +37,15 @@ write-endpoints-requires : tie.Need-write-endpoints-requires
 write-endpoints-requires c κs = search needs
 
 acknowledge-requires : tie.Need-acknowledge-requires
-acknowledge-requires c κs = search needs
+acknowledge-requires c κs =
+    let p = c .before .before .before .before in
+    ap soundChip (c .write-endpoints .ensures) ∙ stays-sound (p .args .chip) (p .good .0) (p .pre .0) _
 
 enum-known-reply-2 : tie.Need-enum-known-reply-2
 enum-known-reply-2 c = search needs
 
 send-data-requires : tie.Need-send-data-requires
-send-data-requires c κs = let p = c .before .before .before .before .pre in (rw (c .before .reply2 .given .1) at (p .0), p .1)
+send-data-requires c κs = let p = c .before .before .before .before .pre in (p .0, rw (c .before .reply2 .given .1) at (p .1), p .2)
 
 returns : tie.Need-returns
 unfolding runTo

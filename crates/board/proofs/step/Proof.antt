@@ -60,11 +60,10 @@ returns-3 c =
 serve-requires : tie.Need-serve-requires
 serve-requires c κs =
     let b = c .before .before .before in
-    let a = b .before .before .before .before .args .board in (
-      and-true (soundChip (a .chip)) (soundFirmware (a .firmware))
-          (sym (b .before .before .is-sound .ensures) ∙ not-false (b .before .before .is-sound .result) (b .before .if1 .left)) .1,
-      search needs,
-    )
+    let a = b .before .before .before .before .args .board in
+    let sound = and-true (soundChip (a .chip)) (soundFirmware (a .firmware))
+    (sym (b .before .before .is-sound .ensures) ∙ not-false (b .before .before .is-sound .result) (b .before .if1 .left)) in
+    (sound .0, sound .1, search needs)
 
 reply-of-requires : tie.Need-reply-of-requires
 reply-of-requires c κs = search needs

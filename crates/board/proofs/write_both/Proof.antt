@@ -1,4 +1,8 @@
+use mathlib.Core.Path.{refl, ap, _∙_}
+use mathlib.Core.List.{[], _∷_}
+use Rattle.chip.specs.Sound.{soundChip}
 use Rattle.model.specs.Call.{runTo}
+use Rattle.rules.proofs.Sound.{stays-sound}
 use borrow.Author.Needs.{needs}
 use Rattle.board.proofs.write_both.Statement.{statement}
 use Rattle.board.proofs.write_both.Tie as tie
@@ -18,7 +22,10 @@ send-requires : tie.Need-send-requires
 send-requires c κs = search needs
 
 send-requires-2 : tie.Need-send-requires-2
-send-requires-2 c κs = search needs
+unfolding runTo
+send-requires-2 c κs =
+    let p = c .before .before .before in
+    (ap soundChip (c .send .ensures) ∙ stays-sound (p .args .chip) (p .good .0) (p .pre) (_ ∷ []), refl)
 
 returns : tie.Need-returns
 unfolding runTo
