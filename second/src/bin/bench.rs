@@ -1,5 +1,6 @@
 //! Nanoseconds a call of the proved library and of this model, and their ratio, as a Markdown table.
-//! Both take their record by value and hand it back, as a user writes it. Run it as `COMMAND` says.
+//! Both take their record by value and hand it back, as a user writes it, over the C boundary: a record that a C function takes by
+//! value is copied to the stack, which a Rust function spares. The last column is this model by a Rust call. Run it as `COMMAND` says.
 
 const COMMAND: &str = "cargo run --profile measure --no-default-features --bin bench";
 
@@ -102,20 +103,45 @@ mod measured {
         assert_eq!(Library.observe(&chip), Second::default().observe(&other_chip), "{}", case.name);
     }
 
-    /// This model's calls as they stand in a user's program: not merged with the loop.
-    #[inline(never)]
-    fn transfer(chip: Chip, bytes: &[u8], reply: &mut [u8]) -> Answer {
-        second::transfer(chip, bytes, reply)
+    /// This model's calls as they stand in a user's program: not merged with the loop. First by Rust's calling convention.
+    mod by_rust {
+        use super::*;
+
+        #[inline(never)]
+        pub fn transfer(chip: Chip, bytes: &[u8], reply: &mut [u8]) -> Answer {
+            second::transfer(chip, bytes, reply)
+        }
+
+        #[inline(never)]
+        pub fn event(chip: Chip, what: &Event, payload: &[u8], reply: &mut [u8]) -> Answer {
+            second::event(chip, *what, payload, reply)
+        }
+
+        #[inline(never)]
+        pub fn board_step(chip: Chip, firmware: Firmware, reply: &mut [u8]) -> BoardAnswer {
+            second::board_step(chip, firmware, reply)
+        }
     }
 
-    #[inline(never)]
-    fn event(chip: Chip, what: &Event, payload: &[u8], reply: &mut [u8]) -> Answer {
-        second::event(chip, *what, payload, reply)
-    }
+    /// Then by C's, as the library's functions are called. The slices are Rust's; no C program calls these.
+    #[allow(improper_ctypes_definitions)]
+    mod by_c {
+        use super::*;
 
-    #[inline(never)]
-    fn board_step(chip: Chip, firmware: Firmware, reply: &mut [u8]) -> BoardAnswer {
-        second::board_step(chip, firmware, reply)
+        #[inline(never)]
+        pub extern "C" fn transfer(chip: Chip, bytes: &[u8], reply: &mut [u8]) -> Answer {
+            second::transfer(chip, bytes, reply)
+        }
+
+        #[inline(never)]
+        pub extern "C" fn event(chip: Chip, what: &Event, payload: &[u8], reply: &mut [u8]) -> Answer {
+            second::event(chip, *what, payload, reply)
+        }
+
+        #[inline(never)]
+        pub extern "C" fn board_step(chip: Chip, firmware: Firmware, reply: &mut [u8]) -> BoardAnswer {
+            second::board_step(chip, firmware, reply)
+        }
     }
 
     /// Nanoseconds a call. The record is read anew for each call, and each answer counts as used.
@@ -143,16 +169,21 @@ mod measured {
         }
     }
 
-    fn time_second(case: &Case) -> f64 {
-        let (chip, firmware) = prepared(&Second::default(), case);
-        let reply = &mut [0; 80][..];
-        match &case.call {
-            Call::Transfer { bytes, .. } => time(|| transfer(*black_box(&chip), black_box(bytes), black_box(&mut *reply))),
-            Call::Event { event: what, payload, .. } => {
-                time(|| event(*black_box(&chip), black_box(what), black_box(payload), black_box(&mut *reply)))
+    /// `$by` is the module whose calls are timed.
+    macro_rules! time_second {
+        ($case:expr, $by:ident) => {{
+            let (chip, firmware) = prepared(&Second::default(), $case);
+            let reply = &mut [0; 80][..];
+            match &$case.call {
+                Call::Transfer { bytes, .. } => {
+                    time(|| $by::transfer(*black_box(&chip), black_box(bytes), black_box(&mut *reply)))
+                }
+                Call::Event { event, payload, .. } => {
+                    time(|| $by::event(*black_box(&chip), black_box(event), black_box(payload), black_box(&mut *reply)))
+                }
+                _ => time(|| $by::board_step(*black_box(&chip), black_box(firmware), black_box(&mut *reply))),
             }
-            _ => time(|| board_step(*black_box(&chip), black_box(firmware), black_box(&mut *reply))),
-        }
+        }};
     }
 
     fn machine() -> String {
@@ -169,15 +200,17 @@ mod measured {
         if cfg!(debug_assertions) || cfg!(feature = "flips") {
             println!("**Not comparable: this build of the second model has checks or flips in it.**\n");
         }
-        println!("| call | library, ns | second model, ns | ratio |\n|---|---:|---:|---:|");
+        println!("| call | library, ns | second model, ns | ratio | second model by a Rust call, ns |");
+        println!("|---|---:|---:|---:|---:|");
         for case in cases() {
             check(&case);
-            let (mut library, mut second) = (f64::INFINITY, f64::INFINITY);
+            let (mut library, mut by_c, mut by_rust) = (f64::INFINITY, f64::INFINITY, f64::INFINITY);
             for _ in 0..ROUNDS {
                 library = library.min(time_library(&case));
-                second = second.min(time_second(&case));
+                by_c = by_c.min(time_second!(&case, by_c));
+                by_rust = by_rust.min(time_second!(&case, by_rust));
             }
-            println!("| {} | {library:.0} | {second:.0} | {:.2} |", case.name, library / second);
+            println!("| {} | {library:.0} | {by_c:.0} | {:.2} | {by_rust:.0} |", case.name, library / by_c);
         }
     }
 }
