@@ -1,10 +1,9 @@
--- The transfer that writes bytes to R0: its bytes, and how many are lent for its reply.
-use mathlib.Core.Path.{_≡_, refl, sym, ap, _∙_}
+-- The bytes of the transfer that writes to R0.
+use mathlib.Core.Path.{_≡_, ap, _∙_}
 use mathlib.Core.List.{List, [], _∷_, _++_, append-nil}
-use Prim.Native.Nat.{ℕ, suc, _+_, _-_, _≤_}
+use Prim.Native.Nat.{ℕ, _+_, _≤_}
 use native.Mathlib.Numerals.{add-one}
-use native.Mathlib.Omega.{arith}
-use lib.ListN.{length, take, length-take}
+use lib.ListN.{length, take}
 use lib.Seq.{take-length, take-at, length-take-le}
 
 -- n bytes copied behind the command byte
@@ -15,8 +14,3 @@ message-is n b bs src x rest from long copied =
     ap (λ (k : ℕ). take k (b ∷ (x ++ []))) (add-one n)
     ∙ ap (λ (l : List ℕ). b ∷ take n l) (append-nil x ∙ copied ∙ ap (λ (l : List ℕ). l ++ rest) (take-length src))
     ∙ ap (λ (l : List ℕ). b ∷ l) (take-at src rest n exact ∙ from)
-
--- as many bytes are lent as it has
-pub room-is : (n b : ℕ) (xs bs : List ℕ) → n + 1 ≤ length xs → n ≤ length bs → length (take (n + 1) xs) ≡ length (b ∷ take n bs)
-room-is n b xs bs room long =
-    length-take-le (n + 1) xs room ∙ add-one n ∙ ap suc (sym (length-take-le n bs long))

@@ -35,7 +35,7 @@ use Rattle.board.specs.declared.StepReply.{StepReply}
 use Rattle.board.specs.Board.{steppedWith}
 use Rattle.board.specs.Step.{clearsSudav, setupAnswer, setupRead, served, serves}
 
-pub answer-length : (c : Chip) → length (setupAnswer c) ≡ 9
+answer-length : (c : Chip) → length (setupAnswer c) ≡ 9
 unfolding setupAnswer
 answer-length c = transfer-buffer max3420e (callTo max3420e c clearsSudav) (0x20 ∷ replicate 8 0) (replicate 9 0) refl
 
@@ -69,8 +69,8 @@ served-accepted c f r sound e = ap requestRefusal (sym e) ∙ firmware-accepts c
 -- ---- what the code lends and gets
 
 -- the slice past reply byte 0
-pub part-is : (c : Chip) (nine : List ℕ) → nine ≡ setupAnswer c → take (9 - 1) (drop 1 nine) ≡ setupRead c
-part-is c nine e = ap (λ (l : List ℕ). take 8 (drop 1 l)) e ∙ take-all 8 (setupRead c) (omega (arith, setup-length c))
+pub part-is : (c : Chip) (nine : List ℕ) → drop 1 nine ≡ setupRead c → take (9 - 1) (drop 1 nine) ≡ setupRead c
+part-is c nine e = ap (take 8) e ∙ take-all 8 (setupRead c) (omega (arith, setup-length c))
 
 -- the transfers that serve a reply read the bytes that it counts, which do not depend on the rest of the lent buffer
 counted-same : (t : Bool) (n r9 r10 : ℕ) (e : Endpoints) (vs xs ys : List ℕ) → length vs ≡ n

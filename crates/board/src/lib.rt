@@ -11,7 +11,7 @@ use spi::TransferReply;
 ghost use mathlib.Core.Path.{_≡_};
 ghost use mathlib.Core.Bool.{true};
 ghost use Prim.Native.Nat.{_+_, _≤_};
-ghost use lib.ListN.{length, take};
+ghost use lib.ListN.{length, take, drop};
 ghost use mathlib.Core.List.{[], _∷_};
 ghost use Rattle.chip.specs.Sound.{soundChip};
 ghost use Rattle.firmware.specs.Answer.{requestCount, handled};
@@ -21,7 +21,7 @@ ghost use Rattle.model.specs.Call.{Call, callTo, runTo, bufferAfter, checkedNum
 ghost use Rattle.spi.specs.Transfer.{transferRefusal, transferCount, transferredCount};
 ghost use Rattle.bus.specs.EventCall.{eventRefusal, eventPid, eventCount, answerPid, answerCount};
 ghost use Rattle.rules.specs.Event.{max3420e};
-ghost use Rattle.board.specs.Step.{sends, clearsSudav, readsSetup, setupAnswer, setupRead, served, setupCalls, stallByte};
+ghost use Rattle.board.specs.Step.{sends, clearsSudav, readsSetup, setupRead, served, setupCalls, stallByte};
 ghost use Rattle.board.specs.Step.{writesBoth, writesEndpoints, serves};
 ghost use Rattle.board.specs.Board.{powerOnBoard, soundBoard, boardAnswer, isDone, firmwareFor, repliedStep, stepChecked, stepBuffer};
 ghost use Rattle.board.specs.Board.{steppedWith, boardStep, boardTransfer, boardEvent, boardChecked};
@@ -98,23 +98,26 @@ fn acknowledge(mut chip: Chip) -> Chip
     chip
 }
 
-// What R4 read, after reply byte 0.
+// What R4 read, behind the place of reply byte 0, which the step does not use.
 struct SetupRead {
     chip: Chip,
     reply: [u8; 9],
 }
 
-// `5A 20`, then eight bytes by R4.
+// `5A 20`, then eight bytes by R4, read from the endpoint itself.
 fn read_setup(chip: Chip) -> SetupRead
     requires { ⌜ soundChip chip ≡ true ⌝ }
-    ensures { λ r. ⌜ (r .chip ≡ callTo max3420e (callTo max3420e chip clearsSudav) readsSetup) × (r .reply ≡ setupAnswer chip) ⌝ }
+    ensures { λ r. ⌜ (r .chip ≡ callTo max3420e (callTo max3420e chip clearsSudav) readsSetup) × (drop 1 (r .reply) ≡ setupRead chip) ⌝ }
 {
-    let cleared = send(chip, 0x5a, 0x20);
+    let mut cleared = send(chip, 0x5a, 0x20);
     let message = [0x20, 0, 0, 0, 0, 0, 0, 0, 0];
     let mut reply = [0u8; 9];
-    let answer = spi::transfer(cleared, &message, &mut reply);
-    let after = answer.chip;
-    SetupRead { chip: after, reply }
+    let endpoint = bursts::read_setup(cleared.ep0, &message, &mut reply);
+    cleared.ep0 = endpoint;
+    SetupRead {
+        chip: cleared,
+        reply,
+    }
 }
 
 // R9 of a STALL: the halts stay.
@@ -158,16 +161,18 @@ fn message_of(bytes: &[u8], n: usize) -> [u8; 65]
     message
 }
 
-// Bytes to R0.
-fn fill(chip: Chip, bytes: &[u8], n: usize) -> Chip
-    requires { ⌜ (n ≤ 64) × (64 ≤ length (now bytes)) ⌝ }
+// Bytes to R0, written to the endpoint itself.
+fn fill(mut chip: Chip, bytes: &[u8], n: usize) -> Chip
+    requires { ⌜ (soundChip chip ≡ true) × (n ≤ 64) × (64 ≤ length (now bytes)) ⌝ }
     ensures { λ r. ⌜ r ≡ callTo max3420e chip (sends (0x02 ∷ take n (now (bytes .entry)))) ⌝ }
 {
     let message = message_of(bytes, n);
     let end = n + 1;
     let mut reply = [0u8; 65];
-    let answer = spi::transfer(chip, &message[0..end], &mut reply[0..end]);
-    answer.chip
+    let dav = chip.registers.epirq & Chip::OUT0DAVIRQ != 0;
+    let endpoint = bursts::write_ep0(chip.ep0, dav, &message[0..end], &mut reply[0..end]);
+    chip.ep0 = endpoint;
+    chip
 }
 
 // Data: bytes to R0, then `2B n`.

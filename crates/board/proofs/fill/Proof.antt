@@ -1,20 +1,21 @@
-use mathlib.Core.Path.{_≡_, ap, ap₂, _∙_}
-use mathlib.Core.List.{List}
+use mathlib.Core.Path.{_≡_, refl, sym, ap, _∙_}
+use mathlib.Core.Bool.{true}
+use mathlib.Core.List.{List, _∷_}
 use Prim.Native.Nat.{ℕ, _+_, _-_}
-use lib.ListN.{length, take, replicate}
 use native.Mathlib.Omega.{arith}
+use lib.ListN.{length, take, drop}
+use lib.Seq.{length-take-le}
 use denote.Ref.{now}
-use Rattle.spi.specs.declared.TransferAnswer.{TransferAnswer}
-use Rattle.model.specs.Call.{Call, transfer, callTo}
-use Rattle.rules.specs.Event.{max3420e}
-use Rattle.board.proofs.Message.{room-is}
+use Rattle.model.specs.Spi.{burstTo}
+use Rattle.rules.specs.Spi.{max3420eSpi}
+use Rattle.board.proofs.Sends.{sends-to}
 use borrow.Author.Needs.{needs}
 use Rattle.board.proofs.fill.Statement.{statement}
 use Rattle.board.proofs.fill.Tie as tie
 use Rattle.board.proofs.fill.Reads as reads
 use Rattle.board.proofs.fill.Lts as lts
 use Rattle.board.proofs.message_of.Reads as message-of-reads
-use Rattle.spi.proofs.transfer.Reads as transfer-reads
+use Rattle.bursts.proofs.write_ep0.Reads as write-ep0-reads
 
 message-of-requires : tie.Need-message-of-requires
 message-of-requires c κs = search needs
@@ -22,17 +23,17 @@ message-of-requires c κs = search needs
 add-end : tie.Need-add-end
 add-end c = search needs
 
-sub-transfer : tie.Need-sub-transfer
-sub-transfer c = search needs
+sub-write-ep0 : tie.Need-sub-write-ep0
+sub-write-ep0 c = search needs
 
-part-transfer-start : tie.Need-part-transfer-start
-part-transfer-start c = search needs
+part-write-ep0-start : tie.Need-part-write-ep0-start
+part-write-ep0-start c = search needs
 
-part-transfer-end : tie.Need-part-transfer-end
-part-transfer-end c = search needs
+part-write-ep0-end : tie.Need-part-write-ep0-end
+part-write-ep0-end c = search needs
 
-sub-transfer-2 : tie.Need-sub-transfer-2
-sub-transfer-2 c = search needs
+sub-write-ep0-2 : tie.Need-sub-write-ep0-2
+sub-write-ep0-2 c = search needs
 
 part-reply-start : tie.Need-part-reply-start
 part-reply-start c = search needs
@@ -40,8 +41,8 @@ part-reply-start c = search needs
 part-reply-end : tie.Need-part-reply-end
 part-reply-end c = search needs
 
-transfer-requires : tie.Need-transfer-requires
-transfer-requires c κs = search needs
+write-ep0-requires : tie.Need-write-ep0-requires
+write-ep0-requires c κs = search needs
 
 returns : tie.Need-returns
 returns c =
@@ -49,11 +50,10 @@ returns c =
     let a = p .args in
     let m = c .before .before .before .before .before .before .message-of in
     let end : (a .n + 1) - 0 ≡ a .n + 1 = omega arith in
-    ap (λ (x : TransferAnswer). x .chip) (c .before .before .transfer .ensures .0)
-    ∙ ap₂ (λ (bs : List ℕ) (room : ℕ). callTo max3420e (a .chip) (transfer bs room))
-    (ap (λ (k : ℕ). take k (m .result)) end ∙ m .ensures)
-    (ap (λ (k : ℕ). length {A = ℕ} (take k (replicate 65 0))) end
-    ∙ room-is (a .n) 0x02 (replicate 65 0) (now (a .bytes)) (omega (arith, p .pre .0)) (omega (arith, p .pre .0)))
+    let long : length (take (a .n) (now (a .bytes))) ≡ a .n = length-take-le _ _ (omega (arith, p .pre)) in
+    c .before .write-ep0 .ensures (a .chip) refl .0
+    ∙ ap (λ (bs : List ℕ). burstTo max3420eSpi (a .chip) true 0 (drop 1 bs)) (ap (λ (k : ℕ). take k (m .result)) end ∙ m .ensures)
+    ∙ sym (sends-to (a .chip) (p .pre .0) (0x02 ∷ take (a .n) (now (a .bytes))) (omega arith) (omega (arith, p .pre)))
 
 pub fill-spec : {M : Type 1} → statement M
 fill-spec =
@@ -61,11 +61,11 @@ fill-spec =
     (tie.spec
     message-of-requires
     add-end
-    sub-transfer
-    part-transfer-start
-    part-transfer-end
-    sub-transfer-2
+    sub-write-ep0
+    part-write-ep0-start
+    part-write-ep0-end
+    sub-write-ep0-2
     part-reply-start
     part-reply-end
-    transfer-requires
+    write-ep0-requires
     returns)

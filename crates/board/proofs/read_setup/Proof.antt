@@ -1,37 +1,43 @@
-use mathlib.Core.Path.{ap, _∙_}
-use lib.ListN.{replicate}
-use Rattle.chip.specs.declared.Chip.{Chip}
-use Rattle.spi.specs.declared.TransferAnswer.{TransferAnswer}
-use Rattle.model.specs.Call.{callTo, answerOf, bufferAfter}
-use Rattle.rules.specs.Event.{max3420e}
-use Rattle.board.specs.Step.{readsSetup, setupAnswer}
+use mathlib.Core.Path.{sym, ap, _∙_}
+use mathlib.Core.List.{[], _∷_}
+use native.Mathlib.Omega.{arith}
+use lib.ListN.{drop, replicate}
+use Rattle.chip.specs.Sound.{soundChip}
+use Rattle.model.specs.Call.{runTo}
+use Rattle.rules.proofs.Sound.{stays-sound}
+use Rattle.board.specs.Step.{clearsSudav, setupAnswer}
+use Rattle.board.proofs.Sends.{sends-to, sends-reply}
 use borrow.Author.Needs.{needs}
 use Rattle.board.proofs.read_setup.Statement.{statement}
 use Rattle.board.proofs.read_setup.Tie as tie
 use Rattle.board.proofs.read_setup.Reads as reads
 use Rattle.board.proofs.read_setup.Lts as lts
 use Rattle.board.proofs.send.Reads as send-reads
-use Rattle.spi.proofs.transfer.Reads as transfer-reads
+use Rattle.bursts.proofs.read_setup.Reads as read-setup-reads
 
 send-requires : tie.Need-send-requires
 send-requires c κs = search needs
 
-slice-aggregate-transfer : tie.Need-slice-aggregate-transfer
-slice-aggregate-transfer c = search needs
+slice-aggregate-read-setup : tie.Need-slice-aggregate-read-setup
+slice-aggregate-read-setup c = search needs
 
-slice-aggregate-transfer-2 : tie.Need-slice-aggregate-transfer-2
-slice-aggregate-transfer-2 c = search needs
+slice-aggregate-read-setup-2 : tie.Need-slice-aggregate-read-setup-2
+slice-aggregate-read-setup-2 c = search needs
 
-transfer-requires : tie.Need-transfer-requires
-transfer-requires c κs = search needs
+read-setup-requires : tie.Need-read-setup-requires
+read-setup-requires c κs = search needs
 
 returns : tie.Need-returns
-unfolding setupAnswer
+unfolding runTo setupAnswer
 returns c =
-    let t = c .before .before .transfer in
-    let s = c .before .before .before .before .before .send .ensures in (
-      ap (λ (a : TransferAnswer). a .chip) (t .ensures .0) ∙ ap (λ (x : Chip). callTo max3420e x readsSetup) s,
-      t .ensures .1 ∙ ap (λ (x : Chip). bufferAfter (answerOf max3420e x readsSetup) (replicate 9 0)) s,
+    let p = c .before .before .before .before .before in
+    let s = c .before .before .before .before .send in
+    let d = s .result in
+    let sound = ap soundChip (s .ensures) ∙ stays-sound (p .args .chip) (p .good .0) (p .pre) (clearsSudav ∷ []) in
+    let e = c .before .read-setup .ensures d in
+    rw (← s .ensures) (
+      e .0 ∙ sym (sends-to d sound (0x20 ∷ replicate 8 0) (omega arith) (omega arith)),
+      ap (drop 1) (e .1) ∙ sends-reply d sound 0x20 0 (replicate 8 0) (replicate 8 0) (omega arith),
     )
 
 pub read-setup-spec : {M : Type 1} → statement M
@@ -39,7 +45,7 @@ read-setup-spec =
     tie.close
     (tie.spec
     send-requires
-    slice-aggregate-transfer
-    slice-aggregate-transfer-2
-    transfer-requires
+    slice-aggregate-read-setup
+    slice-aggregate-read-setup-2
+    read-setup-requires
     returns)

@@ -13,7 +13,7 @@ use Rattle.model.specs.Call.{Call, runTo}
 use Rattle.rules.specs.Event.{max3420e}
 use Rattle.rules.proofs.Sound.{stays-sound}
 use Rattle.board.specs.Step.{clearsSudav, readsSetup, setupRead, serves}
-use Rattle.board.proofs.Setup.{answer-length, setup-length, part-is, handled-lent, serves-lent}
+use Rattle.board.proofs.Setup.{setup-length, part-is, handled-lent, serves-lent}
 use borrow.Author.Needs.{needs}
 use Rattle.board.proofs.serve.Statement.{statement}
 use Rattle.board.proofs.serve.Tie as tie
@@ -34,8 +34,7 @@ part-answer-start c = search needs
 
 part-answer-end : tie.Need-part-answer-end
 part-answer-end c =
-    let n : length (c .before .before .before .read-setup .result .reply) ≡ 9 = ap length
-    (c .before .before .before .read-setup .ensures .1) ∙ answer-length _ in
+    let nine : length (c .before .before .before .read-setup .result .reply) ≡ 9 = search needs in
     omega arith
 
 answer-requires : tie.Need-answer-requires
