@@ -143,12 +143,10 @@ fn take_in(chip: Chip, event: Event, reply: &mut [u8]) -> EventAnswer
         return answer_with(chip, EventReply::Silence);
     }
     let endpoint = event.endpoint;
-    match endpoint {
-        0 => in_transactions::in0(chip, event.acknowledged, reply),
-        2 => in_transactions::in2(chip, event.acknowledged, reply),
-        3 => in_transactions::in3(chip, event.acknowledged, reply),
-        _ => answer_with(chip, EventReply::Silence),
+    if (endpoint == 0) | (endpoint == 2) | (endpoint == 3) {
+        return in_transactions::answer(chip, endpoint, event.acknowledged, reply);
     }
+    answer_with(chip, EventReply::Silence)
 }
 
 // ---- the call

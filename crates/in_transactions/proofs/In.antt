@@ -1,63 +1,59 @@
--- The verdicts on IN: what the answer is where a packet is sent, and where none is; and FNADDR alone changes with an address.
-use mathlib.Core.Path.{_≡_, refl}
-use mathlib.Core.Logic.{_⊎_, ⊎-elim}
-use mathlib.Core.Bool.{Bool, true, false, cond}
-use mathlib.Core.List.{List, _++_}
+-- IN by the endpoint's number is the rules' own, and what parts of the record change.
+use mathlib.Core.Path.{_≡_, refl, sym}
+use mathlib.Core.Bool.{Bool, true, false, cond, _&&_, _||_}
+use mathlib.Core.List.{[], _∷_}
 use Prim.Native.Nat.{ℕ}
-use native.Mathlib.Omega.{arith}
-use lib.ListN.{length, drop}
+use native.Mathlib.Decide.{ℕ-discrete}
+use lib.Dec.{eqb}
+use borrow.Author.Tests.{ne-eqb}
+use Rattle.bits.specs.First.{firstOf}
+use Rattle.bits.proofs.Cases.{true-is-false, or-false}
+use Rattle.ring.specs.declared.Ring.{Ring}
+use Rattle.ring.specs.Ring.{withoutOldest, releaseOldest}
 use Rattle.chip.specs.declared.Chip.{Chip}
 use Rattle.chip.specs.Set.{setFnaddr}
-use Rattle.model.specs.Reply.{Reply, silence, sent}
-use Rattle.rules.specs.declared.InVerdict.{InVerdict}
-use Rattle.rules.specs.declared.InVerdict.the-variants.{Silent, Stall, Nak, Send, Status}
-use Rattle.rules.specs.In.{inOutcome}
-use Rattle.event_answer.specs.Answer.{dataReply, eventAnswerWith, outcomeAnswer, outcomeBuffer}
+use Rattle.model.specs.Reply.{outcome, silence}
+use Rattle.rules.specs.In.{in0, in2, in3}
+use Rattle.in_transactions.specs.At.{inAt}
+
+-- an endpoint that has IN
+abbrev pub hasIn : ℕ → Bool
+hasIn n = (eqb n 0 || eqb n 2) || eqb n 3
+
+pub in-at : (c : Chip) (n : ℕ) (acknowledged : Bool) → hasIn n ≡ true
+    → inAt n c acknowledged ≡ firstOf
+    ((eqb n 0, in0 c acknowledged) ∷ (eqb n 2, in2 c acknowledged) ∷ (eqb n 3, in3 c acknowledged) ∷ []) (outcome c silence)
+in-at c n acknowledged has-in = elim (ℕ-discrete n 0) [
+  | yes e ↦ rw e
+  | no zero ↦ elim (ℕ-discrete n 2) [
+    | yes e ↦ rw e
+    | no two ↦ elim (ℕ-discrete n 3) [
+      | yes e ↦ rw e
+      | no three ↦ true-is-false (sym (rw (ne-eqb n 0 zero, ne-eqb n 2 two, ne-eqb n 3 three) at has-in))
+    ]
+  ]
+]
+
+pub none-in : (n : ℕ) → hasIn n ≡ false → (eqb n 0 ≡ false) × (eqb n 2 ≡ false) × (eqb n 3 ≡ false)
+none-in n none =
+    let other = or-false (eqb n 0 || eqb n 2) (eqb n 3) none in
+    let first = or-false (eqb n 0) (eqb n 2) (other .0) in
+    (first .0, first .1, other .1)
+
+-- a release changes which buffer is the oldest and how many wait
+abbrev moved : Ring → Ring → Ring
+moved r left = record { bytes = r .bytes; counts = r .counts; oldest = left .oldest; waiting = left .waiting }
+
+moves : (t : Bool) (r : Ring) → moved r (cond t r (withoutOldest 2 r)) ≡ cond t r (withoutOldest 2 r)
+moves true r = refl
+moves false r = refl
+
+pub released : (r left : Ring) → left ≡ releaseOldest 2 r → moved r left ≡ releaseOldest 2 r
+released r left e = rw e (moves (eqb (r .waiting) 0) r)
 
 -- a choice of records that differ in FNADDR is a choice of FNADDR
-pub fnaddr-choice : (t : Bool) (x : ℕ) (c : Chip) → setFnaddr (cond t x (c .registers .fnaddr)) c ≡ cond t (setFnaddr x c) c
-fnaddr-choice true x c = refl
-fnaddr-choice false x c = refl
-
--- ---- a packet is sent
-
-module _ (inak : ℕ) (data1 : Bool) (vs : List ℕ) (gone c : Chip) (n : ℕ) (v : InVerdict) (send : v ≡ Send) (long : length vs ≡ n) where
-  -- the ACK arrives, and does not
-  pub sent-gone : (acknowledged : Bool) → acknowledged ≡ true
-      → eventAnswerWith gone (dataReply data1 n) ≡ outcomeAnswer (inOutcome inak (sent data1 vs) gone c acknowledged v)
-  sent-gone acknowledged e = rw (send, long, e)
-
-  pub sent-kept : (acknowledged : Bool) → acknowledged ≡ false
-      → eventAnswerWith c (dataReply data1 n) ≡ outcomeAnswer (inOutcome inak (sent data1 vs) gone c acknowledged v)
-  sent-kept acknowledged e = rw (send, long, e)
-
-  pub sent-buffer : (acknowledged : Bool) (buffer : List ℕ)
-      → vs ++ drop n buffer ≡ outcomeBuffer (inOutcome inak (sent data1 vs) gone c acknowledged v) buffer
-  sent-buffer acknowledged buffer = rw (send, long)
-
--- ---- none is
-
--- the place of `Send` among the verdicts is that of no other
-abbrev Is : ℕ → ℕ → Type 0
-Is m n = m ≡ n
-
-pub not-send : Is 3 0 ⊎ (Is 3 1 ⊎ (Is 3 2 ⊎ Is 3 4)) → ⊥
-not-send =
-    ⊎-elim (λ (e : Is 3 0). omega arith)
-    (⊎-elim (λ (e : Is 3 1). omega arith) (⊎-elim (λ (e : Is 3 2). omega arith) (λ (e : Is 3 4). omega arith)))
-
-pub unsent-answer : (inak : ℕ) (packet : Reply) (gone c : Chip) (acknowledged : Bool) (v : InVerdict) → (v ≡ Send → ⊥)
-    → outcomeAnswer (inOutcome inak silence c c acknowledged v) ≡ outcomeAnswer (inOutcome inak packet gone c acknowledged v)
-unsent-answer inak packet gone c acknowledged Silent n = refl
-unsent-answer inak packet gone c acknowledged Stall n = refl
-unsent-answer inak packet gone c acknowledged Nak n = refl
-unsent-answer inak packet gone c acknowledged Send n = absurd (n refl)
-unsent-answer inak packet gone c acknowledged Status n = refl
-
-pub unsent-buffer : (inak : ℕ) (packet : Reply) (gone c : Chip) (acknowledged : Bool) (v : InVerdict) (buffer : List ℕ) → (v ≡ Send → ⊥)
-    → buffer ≡ outcomeBuffer (inOutcome inak packet gone c acknowledged v) buffer
-unsent-buffer inak packet gone c acknowledged Silent buffer n = refl
-unsent-buffer inak packet gone c acknowledged Stall buffer n = refl
-unsent-buffer inak packet gone c acknowledged Nak buffer n = refl
-unsent-buffer inak packet gone c acknowledged Send buffer n = absurd (n refl)
-unsent-buffer inak packet gone c acknowledged Status buffer n = refl
+pub fnaddr-choice : (s t : Bool) (x : ℕ) (c : Chip)
+    → setFnaddr (cond (s && t) x (c .registers .fnaddr)) c ≡ cond s (cond t (setFnaddr x c) c) c
+fnaddr-choice true true x c = refl
+fnaddr-choice true false x c = refl
+fnaddr-choice false t x c = refl
