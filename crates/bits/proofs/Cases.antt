@@ -20,6 +20,11 @@ pub cond-elim₂ : {A B : Type 0} (P : A → B → Type 0) (s t : Bool) {x y : A
 cond-elim₂ P s true {x} {y} {u} {v} e f g = subst (λ (w : Bool). P (cond w x y) u) (sym e) (f refl)
 cond-elim₂ P s false {x} {y} {u} {v} e f g = subst (λ (w : Bool). P (cond w x y) v) (sym e) (g refl)
 
+-- a choice seen through a function
+pub cond-map : {A B : Type 0} (g : A → B) (t : Bool) (x y : A) → g (cond t x y) ≡ cond t (g x) (g y)
+cond-map g true x y = refl
+cond-map g false x y = refl
+
 -- a choice between equals
 pub cond-same : {A : Type 0} (t : Bool) (x : A) → cond t x x ≡ x
 cond-same true x = refl

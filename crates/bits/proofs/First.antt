@@ -10,7 +10,7 @@ use lib.Dec.{ltb}
 use lib.ListN.{length, getD}
 use borrow.Author.Tests.{ltb-true}
 use Rattle.bits.specs.First.{firstOf, unless}
-use Rattle.bits.proofs.Cases.{cond-elim, cond-elim₂, and-true, true-is-false}
+use Rattle.bits.proofs.Cases.{cond-elim, cond-elim₂, cond-map, and-true, true-is-false}
 
 -- ---- what holds of every outcome
 
@@ -43,14 +43,14 @@ first-each P rules z each p = first-elim P rules z each (λ _. p)
 
 -- what a function gives of the rules' result is the result of the rules with what it gives
 module _ {A B : Type 0} (g : A → B) where
-  cond-map : (b : Bool) (x y : A) → g (cond b x y) ≡ cond b (g x) (g y)
-  cond-map true x y = refl
-  cond-map false x y = refl
-
   pub first-map : (rules : List (Bool × A)) (z : A) → g (firstOf rules z) ≡ firstOf
       (map (λ (rule : Bool × A). (rule .0, g (rule .1))) rules) (g z)
   first-map [] z = refl
-  first-map (rule ∷ rules) z = cond-map (rule .0) (rule .1) (firstOf rules z) ∙ ap (cond (rule .0) (g (rule .1))) (first-map rules z)
+  first-map (rule ∷ rules) z = cond-map g (rule .0) (rule .1) (firstOf rules z) ∙ ap (cond (rule .0) (g (rule .1))) (first-map rules z)
+
+  pub unless-map : (ts : List Bool) (x y : A) → g (unless ts x y) ≡ unless ts (g x) (g y)
+  unless-map [] x y = refl
+  unless-map (t ∷ ts) x y = cond-map g t x (unless ts x y) ∙ ap (cond t (g x)) (unless-map ts x y)
 
 -- ---- which tests an outcome tells of
 

@@ -11,6 +11,7 @@ use lib.ListN.{length, getD, set, take, List·getD-eq-default}
 use lib.Seq.{getD-take, length-take-le}
 use borrow.Author.Tests.{le-leb, lt-ltb, le-ltb}
 use Rattle.bits.specs.Bit.{has}
+use Rattle.bits.proofs.Cases.{cond-same, cond-map}
 use Rattle.ring.specs.Ring.{full, nextBuffer, oldestCount, oldestPacket, withBytes}
 use Rattle.chip.specs.declared.Endpoint0.{Endpoint0}
 use Rattle.chip.specs.declared.Endpoint1.{Endpoint1}
@@ -27,19 +28,11 @@ use Rattle.fifos.specs.Fifo.{positionTo}
 use Rattle.bursts.specs.Burst.{Filling, filling, limitOf, fillTo, fillingSpi, packetSpi, Burst}
 use Rattle.bursts.proofs.Part.{put-back}
 
-either : {A : Type 0} (t : Bool) (x : A) → x ≡ cond t x x
-either true x = refl
-either false x = refl
-
-cond-map : {A B : Type 0} (g : A → B) (t : Bool) (x y : A) → g (cond t x y) ≡ cond t (g x) (g y)
-cond-map g true x y = refl
-cond-map g false x y = refl
-
 -- a limit of 0 ignores every byte, as a buffer that is the chip's does
 stores : {R : Type 0} (put : Filling → R) (busy : Bool) (start : ℕ) (s : Filling) (b : ℕ)
     → put (fillTo start (limitOf busy) s b) ≡ storeFifo (s .position) busy (put s)
     (put (filling (set (s .bytes) (start + s .position) b) (s .position + 1)))
-stores put true start s b = rw (le-leb 0 (s .position) (omega arith)) (either (leb 64 (s .position)) (put s))
+stores put true start s b = rw (le-leb 0 (s .position) (omega arith)) (sym (cond-same (leb 64 (s .position)) (put s)))
 stores put false start s b = cond-map put (leb 64 (s .position)) s (filling (set (s .bytes) (start + s .position) b) (s .position + 1))
 
 stores-first : {R : Type 0} (put : Filling → R) (busy : Bool) (s : Filling) (b : ℕ)

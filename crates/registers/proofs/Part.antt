@@ -1,4 +1,4 @@
--- A rule on the record that changes one part of it is the part's own rule; a buffer is armed where one test finds nothing against it.
+-- The tests of R5, R7 and R8 in one: a buffer is armed where nothing is against it.
 use mathlib.Core.Path.{_≡_, refl, sym, ap, ap₂, _∙_}
 use mathlib.Core.Bool.{Bool, true, false, cond, not, _&&_}
 use mathlib.Core.List.{List, [], _∷_}
@@ -7,17 +7,6 @@ use lib.Dec.{ltb, leb, leb·suc-suc}
 use borrow.Author.Tests.{ltb-true, ltb-false, le-leb, lt-leb}
 use Rattle.bits.specs.First.{unless}
 use Rattle.rules.specs.Write.{armBuffer}
-
-module _ {A B : Type 0} (g : A → B) where
-  pub cond-map : (t : Bool) (x y : A) → g (cond t x y) ≡ cond t (g x) (g y)
-  cond-map true x y = refl
-  cond-map false x y = refl
-
-  pub unless-map : (ts : List Bool) (x y : A) → g (unless ts x y) ≡ unless ts (g x) (g y)
-  unless-map [] x y = refl
-  unless-map (t ∷ ts) x y = cond-map t x (unless ts x y) ∙ ap (cond t (g x)) (unless-map ts x y)
-
--- ---- the tests of R5, R7 and R8 in one
 
 le-not-lt : (a b : ℕ) → leb a b ≡ not (ltb b a)
 le-not-lt a b = by (ltb b a) refl

@@ -11,7 +11,6 @@ use Rattle.chip.specs.Set.{setEp0, setEp1}
 use Rattle.model.specs.Reply.{Outcome}
 use Rattle.rules.specs.Read.{readFifo, ep0At, ep1Read, readEp0fifo, readEp1outfifo, readSudfifo}
 use Rattle.fifos.specs.Fifo.{positionTo, ep0ByteOf, ep1ByteOf, setupByteOf}
-use Rattle.registers.proofs.Part.{cond-map}
 
 fifo-gives : (left : Bool) (byte : ℕ) (moved c : Chip) → cond left byte 0 ≡ readFifo left byte moved c .gives
 fifo-gives true byte moved c = refl

@@ -28,7 +28,7 @@ use Rattle.model.proofs.Loop.{burst-length}
 use Rattle.model.proofs.Refusals.{accepted-none}
 use Rattle.rules.specs.Spi.{max3420eSpi}
 use Rattle.rules.specs.Event.{max3420e}
-use Rattle.registers.proofs.Part.{cond-map}
+use Rattle.bits.proofs.Cases.{cond-map}
 use Rattle.spi.specs.declared.TransferReply.{TransferReply}
 use Rattle.spi.specs.declared.TransferReply.the-variants as reply
 use Rattle.spi.specs.declared.TransferAnswer.{TransferAnswer}

@@ -10,7 +10,7 @@ use Rattle.chip.specs.declared.Chip.{Chip}
 use Rattle.rules.specs.Write.{ep0Stored}
 use Rattle.chip.specs.Set.{setEp0}
 use Rattle.chip.specs.declared.Endpoint0.{Endpoint0}
-use Rattle.registers.proofs.Part.{unless-map}
+use Rattle.bits.proofs.First.{unless-map}
 use Rattle.registers.proofs.write_ep0fifo.Statement.{statement}
 use Rattle.registers.proofs.write_ep0fifo.Tie as tie
 

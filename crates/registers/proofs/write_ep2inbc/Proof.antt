@@ -12,7 +12,8 @@ use Rattle.ring.specs.Ring.{full, armNext}
 use Rattle.chip.specs.Mask.{in2bavirq}
 use Rattle.chip.specs.Set.{setEpirq, setEp2}
 use Rattle.rules.specs.Write.{ep2Armed}
-use Rattle.registers.proofs.Part.{cond-map, arm-if, lt-not-le}
+use Rattle.bits.proofs.Cases.{cond-map}
+use Rattle.registers.proofs.Part.{arm-if, lt-not-le}
 use Rattle.registers.proofs.write_ep2inbc.Statement.{statement}
 use Rattle.registers.proofs.write_ep2inbc.Tie as tie
 

@@ -8,7 +8,7 @@ use Rattle.chip.specs.declared.Chip.{Chip}
 use Rattle.rules.specs.Write.{ep2Stored}
 use Rattle.chip.specs.Set.{setEp2}
 use Rattle.chip.specs.declared.Endpoint2.{Endpoint2}
-use Rattle.registers.proofs.Part.{unless-map}
+use Rattle.bits.proofs.First.{unless-map}
 use Rattle.registers.proofs.write_ep2infifo.Statement.{statement}
 use Rattle.registers.proofs.write_ep2infifo.Tie as tie
 

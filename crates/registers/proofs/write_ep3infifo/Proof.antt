@@ -7,7 +7,7 @@ use Rattle.chip.specs.declared.Chip.{Chip}
 use Rattle.rules.specs.Write.{ep3Stored}
 use Rattle.chip.specs.Set.{setEp3}
 use Rattle.chip.specs.declared.Endpoint3.{Endpoint3}
-use Rattle.registers.proofs.Part.{unless-map}
+use Rattle.bits.proofs.First.{unless-map}
 use Rattle.registers.proofs.write_ep3infifo.Statement.{statement}
 use Rattle.registers.proofs.write_ep3infifo.Tie as tie
 
