@@ -1,6 +1,5 @@
 // The data bytes of a burst at R0 to R4, on the endpoint that the register belongs to (document 01, "Writes" and "Reads"). The buffer
 // is copied once for a burst, not for each byte.
-use chip::Chip;
 use chip::Endpoint0;
 use chip::Endpoint1;
 use chip::Endpoint2;

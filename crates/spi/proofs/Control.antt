@@ -10,7 +10,7 @@ use Rattle.model.specs.Spi.{writeTo, readTo}
 use Rattle.rules.specs.Spi.{stepRegister, max3420eSpi}
 use Rattle.registers.specs.Part.{plainRule}
 use Rattle.registers.proofs.Rest.{NoneOf, plain-others, kept-others}
-use Rattle.spi.specs.Control.{Written, Read}
+use Rattle.spi.specs.Control.{WritesNoFifo, ReadsNoFifo}
 
 -- the FIFOs, R0 to R4, stay selected, and no other register steps to one
 step-low : (n : ℕ) → n < 5 → stepRegister n ≡ n
@@ -32,19 +32,19 @@ step-none n k small other e =
           omega arith
     ]
 
-pub written-step : (n : ℕ) → Written n → Written (stepRegister n)
+pub written-step : (n : ℕ) → WritesNoFifo n → WritesNoFifo (stepRegister n)
 written-step n o =
     (step-none n 0 (omega arith) (o .0), step-none n 2 (omega arith) (o .1), step-none n 3 (omega arith) (o .2))
 
-pub read-step : (n : ℕ) → Read n → Read (stepRegister n)
+pub read-step : (n : ℕ) → ReadsNoFifo n → ReadsNoFifo (stepRegister n)
 read-step n o = (step-none n 0 (omega arith) (o .0), step-none n 1 (omega arith) (o .1), step-none n 4 (omega arith) (o .2))
 
 -- a read of no FIFO moves nothing
-pub kept : (c : Chip) (n : ℕ) → Read n → c ≡ readTo max3420eSpi c n
+pub kept : (c : Chip) (n : ℕ) → ReadsNoFifo n → c ≡ readTo max3420eSpi c n
 kept c n o = kept-others c n (((tt, o .0), o .1), o .2)
 
 -- the arms of the `match`, and the FIFOs
-pub plain : (c : Chip) (b n : ℕ) → Written n → NoneOf (15 ∷ 11 ∷ 10 ∷ 8 ∷ 7 ∷ 5 ∷ []) n → plainRule n c b ≡ writeTo max3420eSpi c n b
+pub plain : (c : Chip) (b n : ℕ) → WritesNoFifo n → NoneOf (15 ∷ 11 ∷ 10 ∷ 8 ∷ 7 ∷ 5 ∷ []) n → plainRule n c b ≡ writeTo max3420eSpi c n b
 plain c b n w o =
     plain-others c b n
     (((((((((tt, w .0), w .1), w .2), o .0 .0 .0 .0 .0 .1), o .0 .0 .0 .0 .1), o .0 .0 .0 .1), o .0 .0 .1), o .0 .1), o .1)

@@ -3,8 +3,8 @@
 use mathlib.Core.Path.{_≡_}
 use Prim.Native.Nat.{ℕ}
 
-abbrev pub Written : ℕ → Type 0
-Written n = (n ≡ 0 → ⊥) × (n ≡ 2 → ⊥) × (n ≡ 3 → ⊥)
+abbrev pub WritesNoFifo : ℕ → Type 0
+WritesNoFifo n = (n ≡ 0 → ⊥) × (n ≡ 2 → ⊥) × (n ≡ 3 → ⊥)
 
-abbrev pub Read : ℕ → Type 0
-Read n = (n ≡ 0 → ⊥) × (n ≡ 1 → ⊥) × (n ≡ 4 → ⊥)
+abbrev pub ReadsNoFifo : ℕ → Type 0
+ReadsNoFifo n = (n ≡ 0 → ⊥) × (n ≡ 1 → ⊥) × (n ≡ 4 → ⊥)

@@ -20,7 +20,7 @@ ghost use Rattle.model.specs.Call.{Call, transferGrounds, check, checked, check
 ghost use Rattle.rules.specs.Spi.{statusByte, max3420eSpi};
 ghost use Rattle.rules.specs.Event.{max3420e};
 ghost use Rattle.bursts.specs.Burst.{Burst};
-ghost use Rattle.spi.specs.Control.{Written, Read};
+ghost use Rattle.spi.specs.Control.{WritesNoFifo, ReadsNoFifo};
 ghost use Rattle.spi.specs.Transfer.{transferAnswer, transferRefusal, transferCount, transferredCount};
 
 // Why a transfer is refused, or how many bytes of the lent buffer are its reply.
@@ -76,7 +76,7 @@ pub fn acknowledged(epstalls: u8, command: u8) -> u8
 // The data bytes of a write from a control register on, one after the other. The record stays in its place: a call that takes and
 // returns it would copy it for each byte.
 fn write_controls(mut chip: Chip, register: u8, bytes: &[u8], reply: &mut [u8]) -> Chip
-    requires { ⌜ Written register × (0 < length (now bytes)) × (length (now bytes) ≤ length (now reply)) ⌝ }
+    requires { ⌜ WritesNoFifo register × (0 < length (now bytes)) × (length (now bytes) ≤ length (now reply)) ⌝ }
     ensures { λ r. ⌜ Burst max3420eSpi chip r true register (now (bytes .entry)) (now (reply .entry)) (now (reply .exit)) ⌝ }
 {
     let mut selected = register;
@@ -137,7 +137,7 @@ fn write_burst(mut chip: Chip, register: u8, bytes: &[u8], reply: &mut [u8]) -> 
 
 // The data bytes of a read from a register on whose read moves nothing, one after the other.
 fn read_controls(chip: Chip, register: u8, bytes: &[u8], reply: &mut [u8])
-    requires { ⌜ Read register × (0 < length (now bytes)) × (length (now bytes) ≤ length (now reply)) ⌝ }
+    requires { ⌜ ReadsNoFifo register × (0 < length (now bytes)) × (length (now bytes) ≤ length (now reply)) ⌝ }
     ensures { λ r. ⌜ Burst max3420eSpi chip chip false register (now (bytes .entry)) (now (reply .entry)) (now (reply .exit)) ⌝ }
 {
     let mut selected = register;

@@ -7,14 +7,14 @@ use lib.ListN.{length}
 use borrow.Author.Needs.{needs}
 use Rattle.model.proofs.Loop.{Turn, start, turn, finish}
 use Rattle.rules.specs.Spi.{max3420eSpi}
-use Rattle.spi.specs.Control.{Read}
+use Rattle.spi.specs.Control.{ReadsNoFifo}
 use Rattle.spi.proofs.Control.{read-step, kept}
 use Rattle.spi.proofs.read_controls.Statement.{statement}
 use Rattle.spi.proofs.read_controls.Tie as tie
 
 abbrev Inv-loop : tie.InvT-loop
 Inv-loop chip register bytes reply₀ selected₀ end i₀ reply selected i =
-    (end ≡ length bytes) × Read selected × Turn max3420eSpi false bytes reply₀ 1 chip selected₀ reply chip selected i
+    (end ≡ length bytes) × ReadsNoFifo selected × Turn max3420eSpi false bytes reply₀ 1 chip selected₀ reply chip selected i
 
 abbrev μ-loop : tie.MeasureT-loop
 μ-loop chip register bytes reply₀ selected₀ end i₀ reply selected i = length bytes - i
