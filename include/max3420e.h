@@ -176,6 +176,14 @@ typedef struct {
     uint8_t pin;     /* enum max3420e_pin */
 } max3420e_board_answer;
 
+typedef struct {
+    max3420e_firmware firmware;
+    uint8_t refusal;   /* enum max3420e_refusal */
+    uint8_t kind;      /* enum max3420e_kind; 0 where it is refused */
+    uint8_t endpoints; /* what to write to R9 and R10 before the ACK: 0 nothing, 1 to end a halt, 2 to halt, 3 to configure */
+    uint16_t count;    /* bytes written to `reply` */
+} max3420e_request_answer;
+
 /* The record at power-on. */
 max3420e_chip max3420e_power_on(void);
 
@@ -192,6 +200,11 @@ max3420e_answer max3420e_event(max3420e_chip chip, uint8_t code, uint8_t pins, u
 /* The board's own firmware serves a SETUP, if one waits; `reply` gets the bytes it sends. Refusals 1 and 4.
  * Use it instead of firmware of your own. */
 max3420e_board_answer max3420e_board_step(max3420e_chip chip, max3420e_firmware firmware, uint8_t *reply, size_t room);
+
+/* What the board's own firmware answers to eight setup bytes, without a chip; `reply` gets the bytes it would send.
+ * Refusals 1, 4 and 6. Hold your own firmware's answers to it. */
+max3420e_request_answer max3420e_firmware_answer(max3420e_firmware firmware, const uint8_t *setup, size_t length,
+                                                 uint8_t *reply, size_t room);
 
 #ifdef __cplusplus
 }

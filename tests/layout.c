@@ -59,6 +59,8 @@ static const field other_fields[] = {
     OF(max3420e_answer, pin),
     OF(max3420e_board_answer, chip), OF(max3420e_board_answer, firmware), OF(max3420e_board_answer, refusal),
     OF(max3420e_board_answer, kind), OF(max3420e_board_answer, count), OF(max3420e_board_answer, pin),
+    OF(max3420e_request_answer, firmware), OF(max3420e_request_answer, refusal), OF(max3420e_request_answer, kind),
+    OF(max3420e_request_answer, endpoints), OF(max3420e_request_answer, count),
 };
 
 static unsigned mismatches;
@@ -225,6 +227,35 @@ static void check_board(void)
     expect(answer.pin == MAX3420E_PIN_LOW && reply[0] == 18 && reply[1] == 1, "the device descriptor");
 }
 
+/* The firmware's answer: its record handed back, refusals, and a request for each value of `kind` and `endpoints`. */
+static void check_firmware(void)
+{
+    static const uint8_t device[8] = {0x80, 0x06, 0x00, 0x01, 0x00, 0x00, 0x40, 0x00};
+    static const uint8_t configure[8] = {0x00, 0x09, 0x01, 0x00, 0x00, 0x00, 0x00, 0x00};
+    static const uint8_t halt[8] = {0x02, 0x03, 0x00, 0x00, 0x83, 0x00, 0x00, 0x00};
+    static const uint8_t unhalt[8] = {0x02, 0x01, 0x00, 0x00, 0x83, 0x00, 0x00, 0x00};
+    static const uint8_t vendor[8] = {0xC0, 0x01, 0x00, 0x00, 0x00, 0x00, 0x00, 0x00};
+    for (unsigned i = 0; i < 64; i++) {
+        max3420e_firmware firmware = {(uint8_t)(i & 3), (uint8_t)(i >> 2 & 3), (uint8_t)(i >> 4)};
+        int sound = firmware.configuration <= 1 && firmware.wakeup <= 1 && firmware.halted <= firmware.configuration;
+        max3420e_request_answer answer = max3420e_firmware_answer(firmware, device, 7, reply, sizeof reply);
+        expect(answer.refusal == (sound ? MAX3420E_BAD_PAYLOAD : MAX3420E_UNSOUND), "the firmware's refusal");
+        expect(memcmp(&answer.firmware, &firmware, sizeof firmware) == 0, "the firmware's record");
+    }
+    max3420e_firmware plain = {0, 1, 0}, configured = {1, 1, 0}, halted = {1, 1, 1};
+    max3420e_request_answer answer = max3420e_firmware_answer(plain, device, 8, reply, sizeof reply);
+    expect(answer.refusal == 0 && answer.kind == MAX3420E_KIND_DATA && answer.count == 18, "a device descriptor");
+    expect(answer.endpoints == 0 && reply[0] == 18 && reply[1] == 1, "the descriptor's bytes");
+    answer = max3420e_firmware_answer(plain, configure, 8, reply, sizeof reply);
+    expect(answer.kind == MAX3420E_KIND_ACK && answer.endpoints == 3 && answer.firmware.configuration == 1, "configured");
+    answer = max3420e_firmware_answer(configured, halt, 8, reply, sizeof reply);
+    expect(answer.kind == MAX3420E_KIND_ACK && answer.endpoints == 2 && answer.firmware.halted == 1, "halted");
+    answer = max3420e_firmware_answer(halted, unhalt, 8, reply, sizeof reply);
+    expect(answer.kind == MAX3420E_KIND_ACK && answer.endpoints == 1 && answer.firmware.halted == 0, "the halt ended");
+    answer = max3420e_firmware_answer(configured, vendor, 8, reply, sizeof reply);
+    expect(answer.kind == MAX3420E_KIND_STALL && answer.count == 0, "a request that is stalled");
+}
+
 int main(void)
 {
     print_fields(chip_fields, COUNT(chip_fields));
@@ -236,6 +267,7 @@ int main(void)
     check_registers();
     check_events();
     check_board();
+    check_firmware();
     if (mismatches > 0)
         return 1;
     printf("layout: %u fields agree\n", (unsigned)(COUNT(chip_fields) + COUNT(other_fields)));

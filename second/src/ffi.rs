@@ -128,6 +128,17 @@ pub struct BoardAnswer {
     pub pin: u8,
 }
 
+/// `max3420e_request_answer`.
+#[repr(C)]
+#[derive(Clone, Copy, Debug, PartialEq, Eq)]
+pub struct RequestAnswer {
+    pub firmware: Firmware,
+    pub refusal: u8,
+    pub kind: u8,
+    pub endpoints: u8,
+    pub count: u16,
+}
+
 // The header's offsets, as tests/layout.c prints them.
 const _: () = {
     use std::mem::offset_of;
@@ -137,6 +148,7 @@ const _: () = {
     assert!(offset_of!(Answer, refusal) == 430 && offset_of!(Answer, count) == 432 && offset_of!(Answer, pin) == 434);
     assert!(offset_of!(BoardAnswer, firmware) == 430 && offset_of!(BoardAnswer, refusal) == 433);
     assert!(offset_of!(BoardAnswer, count) == 436 && offset_of!(BoardAnswer, pin) == 438);
+    assert!(size_of::<RequestAnswer>() == 8 && offset_of!(RequestAnswer, count) == 6);
 };
 
 #[cfg(capi)]
@@ -144,7 +156,7 @@ pub use calls::*;
 
 #[cfg(capi)]
 mod calls {
-    use super::{Answer, BoardAnswer, Chip, Firmware};
+    use super::{Answer, BoardAnswer, Chip, Firmware, RequestAnswer};
     use crate::bus::Event;
 
     // SAFETY: the declarations of include/max3420e.h, whose layout tests/layout.c checks against the library.
@@ -167,6 +179,13 @@ mod calls {
             room: usize,
         ) -> Answer;
         fn max3420e_board_step(chip: Chip, firmware: Firmware, reply: *mut u8, room: usize) -> BoardAnswer;
+        fn max3420e_firmware_answer(
+            firmware: Firmware,
+            setup: *const u8,
+            length: usize,
+            reply: *mut u8,
+            room: usize,
+        ) -> RequestAnswer;
     }
 
     #[inline]
@@ -194,5 +213,11 @@ mod calls {
     pub fn board_step(chip: Chip, firmware: Firmware, reply: &mut [u8]) -> BoardAnswer {
         // SAFETY: as for `transfer`.
         unsafe { max3420e_board_step(chip, firmware, reply.as_mut_ptr(), reply.len()) }
+    }
+
+    #[inline]
+    pub fn firmware_answer(firmware: Firmware, setup: &[u8], reply: &mut [u8]) -> RequestAnswer {
+        // SAFETY: as for `transfer`.
+        unsafe { max3420e_firmware_answer(firmware, setup.as_ptr(), setup.len(), reply.as_mut_ptr(), reply.len()) }
     }
 }

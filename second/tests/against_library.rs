@@ -14,6 +14,7 @@ mod linked {
     use second::noticed::unnoticed_flips;
     use second::runs::*;
     use second::script::script;
+    use second::{ffi, firmware_answer, Endpoints, Firmware};
 
     const RIGHT: Second = Second { flips: 0 };
 
@@ -103,6 +104,37 @@ mod linked {
             }
         }
         println!("request pairs: {played} calls agree");
+    }
+
+    /// Every pair again, by the firmware's own call: any record of it, any length of the setup bytes, a buffer too short.
+    #[test]
+    fn firmware_answers_to_every_pair() {
+        let rng = &mut Rng::new(seed());
+        let fields = [0, 0, 1, 2, 3, 9, 18, 0x21, 0x22, 0x83, 255];
+        for pair in 0..=u16::MAX {
+            for _ in 0..8 {
+                let [kind, code] = pair.to_le_bytes();
+                let setup = [kind, code].into_iter().chain((0..7).map(|_| rng.pick(&fields))).collect::<Vec<u8>>();
+                let (configuration, wakeup, halted) =
+                    (rng.pick(&[0, 1, 1, 2]), rng.pick(&[0, 1, 1, 2]), rng.pick(&[0, 0, 1, 2]));
+                let (length, room) = (rng.pick(&[8, 8, 8, 8, 8, 8, 7, 9]), rng.pick(&[64, 80, 80, 80, 63]));
+                let (mut left, mut right) = ([0xEE; 80], [0xEE; 80]);
+                let firmware = ffi::Firmware { configuration, wakeup, halted };
+                let theirs = ffi::firmware_answer(firmware, &setup[..length], &mut left[..room]);
+                let ours = firmware_answer(&setup[..length], Firmware { configuration, wakeup, halted }, &mut right[..room]);
+                let Firmware { configuration, wakeup, halted } = ours.firmware;
+                let firmware = ffi::Firmware { configuration, wakeup, halted };
+                let endpoints = match ours.endpoints {
+                    Endpoints::Unchanged => 0,
+                    Endpoints::ClearHalt => 1,
+                    Endpoints::SetHalt => 2,
+                    Endpoints::Configure => 3,
+                };
+                let ours =
+                    ffi::RequestAnswer { firmware, refusal: ours.refusal, kind: ours.kind, endpoints, count: ours.count };
+                assert_eq!((theirs, left), (ours, right), "setup bytes {:02X?}, room {room}", &setup[..length]);
+            }
+        }
     }
 
     /// The library is the reference: each flip of the second model is a difference from it.

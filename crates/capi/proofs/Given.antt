@@ -14,7 +14,10 @@ use Rattle.chip.specs.Sound.{soundChip}
 use Rattle.request.specs.Record.{soundFirmware}
 use Rattle.firmware.specs.declared.RequestReply.{RequestReply}
 use Rattle.firmware.specs.declared.RequestReply.the-variants as request
-use Rattle.firmware.specs.Answer.{requestRefusal}
+use Rattle.request.specs.Request.{requestOf}
+use Rattle.request.specs.declared.Firmware.{Firmware}
+use Rattle.firmware.specs.Answer.{requestRefusal, Handled, servedOf, handled}
+use Rattle.firmware.proofs.Laws.{answer-each, served-each}
 use Rattle.model.specs.declared.Event.{Event}
 use Rattle.model.specs.declared.Checked.{Checked}
 use Rattle.model.specs.declared.Checked.the-variants.{Accepted, Refused}
@@ -32,13 +35,14 @@ use Rattle.board.specs.Board.{stepChecked, checkedCalls, boardTo, boardStep, st
 use Rattle.board.proofs.Setup.{served-accepted}
 use Rattle.flat.specs.declared.FlatChip.{FlatChip}
 use Rattle.flat.specs.declared.FlatFirmware.{FlatFirmware}
-use Rattle.flat.specs.Flat.{hasChipFlags, hasFirmwareFlags, chipOf, flatChip, flatFirmware}
+use Rattle.flat.specs.Flat.{hasChipFlags, hasFirmwareFlags, chipOf, firmwareOf, flatChip, flatFirmware}
 use Rattle.flat.proofs.Round.{chip-given, firmware-given}
 use Rattle.capi.specs.declared.FlatAnswer.{FlatAnswer}
 use Rattle.capi.specs.declared.FlatBoardAnswer.{FlatBoardAnswer}
-use Rattle.capi.specs.Answer.{flatTransfer, flatEvent, flatStep, unflagged, unflaggedBoard}
+use Rattle.capi.specs.declared.FlatRequestAnswer.{FlatRequestAnswer}
+use Rattle.capi.specs.Answer.{flatTransfer, flatEvent, flatStep, flatRequest, unflagged, unflaggedBoard, unflaggedFirmware}
 use Rattle.capi.specs.Exported.{transferFlat, transferBuffer, eventFlat, eventFlatBuffer}
-use Rattle.capi.specs.Exported.{boardOf, hasFlags, stepFlat, stepFlatBuffer}
+use Rattle.capi.specs.Exported.{boardOf, hasFlags, stepFlat, stepFlatBuffer, requestFlat, requestFlatBuffer}
 
 -- ---- a call to the model
 
@@ -137,3 +141,31 @@ step-given c f buffer n =
       ap flatFirmware (kept .1) ∙ firmware-given f (both .1),
       kept .2,
     ))
+
+-- ---- the firmware's answer
+
+abbrev AsGiven : Firmware → List ℕ → ℕ → Handled → Type 0
+AsGiven f buffer n h = requestRefusal (h .answer .reply) ≡ suc n → (h .answer .firmware ≡ f) × (h .buffer ≡ buffer)
+
+handled-given : (setup : List ℕ) (f : Firmware) (buffer : List ℕ) (n : ℕ) → AsGiven f buffer n (handled setup f buffer)
+handled-given setup f buffer n =
+    answer-each (AsGiven f buffer n) setup f buffer (λ r h. (refl, refl))
+    (λ h. let none : requestRefusal (servedOf (requestOf setup) f buffer .answer .reply) ≡ 0 =
+    served-each (λ q. requestRefusal q ≡ 0) refl refl (λ k l. refl) (requestOf setup) f buffer in
+    let z : _≡_ {A = ℕ} 0 (suc n) = sym none ∙ h in
+    absurd (omega (arith, z)))
+
+request-as-given : (f : FlatFirmware) (t : Bool) (a b : FlatRequestAnswer) (xs buffer : List ℕ) (n : ℕ) → b .firmware ≡ f
+    → (t ≡ true → a .refusal ≡ suc n → (a .firmware ≡ f) × (xs ≡ buffer))
+    → cond t a b .refusal ≡ suc n → (cond t a b .firmware ≡ f) × (cond t xs buffer ≡ buffer)
+request-as-given f true a b xs buffer n e g h = g refl h
+request-as-given f false a b xs buffer n e g h = (e, refl)
+
+pub request-given : (f : FlatFirmware) (setup buffer : List ℕ) (n : ℕ) → requestFlat f setup buffer .refusal ≡ suc n
+    → (requestFlat f setup buffer .firmware ≡ f) × (requestFlatBuffer f setup buffer ≡ buffer)
+unfolding flatRequest unflaggedFirmware
+request-given f setup buffer n =
+    request-as-given f (hasFirmwareFlags f) (flatRequest (handled setup (firmwareOf f) buffer .answer)) (unflaggedFirmware f)
+    (handled setup (firmwareOf f) buffer .buffer) buffer n refl
+    (λ flags h. let kept = handled-given setup (firmwareOf f) buffer n h in
+    (ap flatFirmware (kept .0) ∙ firmware-given f flags, kept .1))

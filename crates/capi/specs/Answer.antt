@@ -1,5 +1,11 @@
 -- Answers as C programs get them: records as `flat` has them, the reply and the pin as numbers.
+use Prim.Native.Nat.{ℕ}
 use Rattle.chip.specs.Pin.{pinOf, pinNumber}
+use Rattle.request.specs.declared.Endpoints.{Endpoints}
+use Rattle.request.specs.declared.Endpoints.the-variants.{Unchanged, ClearHalt, SetHalt, Configure}
+use Rattle.firmware.specs.declared.RequestReply.{RequestReply}
+use Rattle.firmware.specs.declared.RequestAnswer.{RequestAnswer}
+use Rattle.firmware.specs.Answer.{requestRefusal, requestKind, requestCount}
 use Rattle.spi.specs.declared.TransferReply.{TransferReply}
 use Rattle.spi.specs.declared.TransferAnswer.{TransferAnswer}
 use Rattle.spi.specs.Transfer.{transferRefusal, transferCount}
@@ -15,6 +21,7 @@ use Rattle.flat.specs.Flat.{registersOf, flatChip, flatFirmware}
 use Rattle.capi.specs.declared.Numbers.{Numbers}
 use Rattle.capi.specs.declared.FlatAnswer.{FlatAnswer}
 use Rattle.capi.specs.declared.FlatBoardAnswer.{FlatBoardAnswer}
+use Rattle.capi.specs.declared.FlatRequestAnswer.{FlatRequestAnswer}
 
 -- ---- a reply in numbers
 
@@ -27,6 +34,16 @@ eventNumbers r = record { refusal = eventRefusal r; kind = eventPid r; count = e
 
 abbrev pub stepNumbers : StepReply → Numbers
 stepNumbers r = record { refusal = stepRefusal r; kind = stepKind r; count = stepCount r }
+
+abbrev pub requestNumbers : RequestReply → Numbers
+requestNumbers r = record { refusal = requestRefusal r; kind = requestKind r; count = requestCount r }
+
+-- what is to be written to R9 and R10: nothing, for the end of a halt, for a halt, for a configuration
+abbrev pub endpointsNumber : Endpoints → ℕ
+endpointsNumber Unchanged = 0
+endpointsNumber ClearHalt = 1
+endpointsNumber SetHalt = 2
+endpointsNumber Configure = 3
 
 -- ---- whole answers
 
@@ -61,6 +78,16 @@ flatStep a =
       pin = pinNumber (a .pin);
     }
 
+unfoldable pub flatRequest : RequestAnswer → FlatRequestAnswer
+flatRequest a =
+    record {
+      firmware = flatFirmware (a .firmware);
+      refusal = requestRefusal (a .reply);
+      kind = requestKind (a .reply);
+      endpoints = endpointsNumber (a .endpoints);
+      count = requestCount (a .reply);
+    }
+
 -- ---- refusal 1, the records as given: a flag is neither 0 nor 1
 
 unfoldable pub unflagged : FlatChip → FlatAnswer
@@ -69,3 +96,6 @@ unflagged c = record { chip = c; refusal = 1; pid = 0; count = 0; pin = pinNumbe
 unfoldable pub unflaggedBoard : FlatChip → FlatFirmware → FlatBoardAnswer
 unflaggedBoard c f =
     record { chip = c; firmware = f; refusal = 1; kind = 0; count = 0; pin = pinNumber (pinOf (registersOf (c .registers))) }
+
+unfoldable pub unflaggedFirmware : FlatFirmware → FlatRequestAnswer
+unflaggedFirmware f = record { firmware = f; refusal = 1; kind = 0; endpoints = 0; count = 0 }

@@ -7,6 +7,7 @@ use lib.ListN.{length}
 use Rattle.model.specs.declared.Event.{Event}
 use Rattle.model.specs.Call.{transfer, answerOf, bufferAfter}
 use Rattle.rules.specs.Event.{max3420e}
+use Rattle.firmware.specs.Answer.{handled}
 use Rattle.spi.specs.Transfer.{transferAnswer}
 use Rattle.bus.specs.EventCall.{eventAnswer, eventBuffer}
 use Rattle.board.specs.declared.Board.{Board}
@@ -16,7 +17,8 @@ use Rattle.flat.specs.declared.FlatFirmware.{FlatFirmware}
 use Rattle.flat.specs.Flat.{hasChipFlags, hasFirmwareFlags, chipOf, firmwareOf}
 use Rattle.capi.specs.declared.FlatAnswer.{FlatAnswer}
 use Rattle.capi.specs.declared.FlatBoardAnswer.{FlatBoardAnswer}
-use Rattle.capi.specs.Answer.{flatTransfer, flatEvent, flatStep, unflagged, unflaggedBoard}
+use Rattle.capi.specs.declared.FlatRequestAnswer.{FlatRequestAnswer}
+use Rattle.capi.specs.Answer.{flatTransfer, flatEvent, flatStep, flatRequest, unflagged, unflaggedBoard, unflaggedFirmware}
 
 -- ---- a transfer
 
@@ -64,3 +66,11 @@ stepFlat c f room = cond (hasFlags c f) (flatStep (boardStep (boardOf c f) room)
 abbrev pub stepFlatBuffer : FlatChip → FlatFirmware → List ℕ → List ℕ
 stepFlatBuffer c f buffer =
     cond (hasFlags c f) (stepBuffer (boardOf c f) (stepChecked (boardOf c f) (length buffer)) buffer) buffer
+
+-- ---- the firmware's answer to eight setup bytes
+
+abbrev pub requestFlat : FlatFirmware → List ℕ → List ℕ → FlatRequestAnswer
+requestFlat f setup buffer = cond (hasFirmwareFlags f) (flatRequest (handled setup (firmwareOf f) buffer .answer)) (unflaggedFirmware f)
+
+abbrev pub requestFlatBuffer : FlatFirmware → List ℕ → List ℕ → List ℕ
+requestFlatBuffer f setup buffer = cond (hasFirmwareFlags f) (handled setup (firmwareOf f) buffer .buffer) buffer

@@ -7,9 +7,12 @@ use bus::EventAnswer;
 use bus::EventReply;
 use chip::Chip;
 use chip::Pin;
+use firmware::RequestAnswer;
+use firmware::RequestReply;
 use flat::FlatChip;
 use flat::FlatFirmware;
 use model::Event;
+use request::Endpoints;
 use spi::TransferAnswer;
 use spi::TransferReply;
 ghost use mathlib.Core.Path.{_≡_};
@@ -17,10 +20,10 @@ ghost use lib.ListN.{length};
 ghost use Rattle.chip.specs.Record.{powerOnChip};
 ghost use Rattle.chip.specs.Pin.{pinNumber};
 ghost use Rattle.flat.specs.Flat.{flatChip};
-ghost use Rattle.capi.specs.Answer.{transferNumbers, eventNumbers, stepNumbers, flatTransfer};
-ghost use Rattle.capi.specs.Answer.{flatEvent, flatStep, unflagged, unflaggedBoard};
+ghost use Rattle.capi.specs.Answer.{transferNumbers, eventNumbers, stepNumbers, requestNumbers, endpointsNumber};
+ghost use Rattle.capi.specs.Answer.{flatTransfer, flatEvent, flatStep, flatRequest, unflagged, unflaggedBoard, unflaggedFirmware};
 ghost use Rattle.capi.specs.Exported.{transferFlat, transferBuffer, eventOf, eventFlat};
-ghost use Rattle.capi.specs.Exported.{eventFlatBuffer, stepFlat, stepFlatBuffer};
+ghost use Rattle.capi.specs.Exported.{eventFlatBuffer, stepFlat, stepFlatBuffer, requestFlat, requestFlatBuffer};
 
 // What a transfer or an event hands back.
 #[repr(C)]
@@ -43,12 +46,25 @@ pub struct FlatBoardAnswer {
     pub pin: u8,
 }
 
+// What the firmware's answer to eight setup bytes hands back.
+#[repr(C)]
+pub struct FlatRequestAnswer {
+    pub firmware: FlatFirmware,
+    pub refusal: u8,
+    pub kind: u8,
+    pub endpoints: u8,
+    pub count: u16,
+}
+
 // A reply: the number of refusal, the PID or the kind, and the bytes written.
 struct Numbers {
     refusal: u8,
     kind: u8,
     count: u16,
 }
+
+// The number of refusal of a record that is not sound.
+const UNSOUND: u8 = 1;
 
 fn pin_number(pin: Pin) -> u8
     ensures { λ r. ⌜ r ≡ pinNumber pin ⌝ }
@@ -106,6 +122,29 @@ fn step_numbers(reply: StepReply) -> Numbers
     }
 }
 
+fn request_numbers(reply: RequestReply) -> Numbers
+    ensures { λ r. ⌜ r ≡ requestNumbers reply ⌝ }
+{
+    match reply {
+        RequestReply::Refused(refusal) => in_numbers(refusal.number(), 0, 0),
+        RequestReply::Stall => in_numbers(0, 1, 0),
+        RequestReply::Ack => in_numbers(0, 2, 0),
+        RequestReply::Data(n) => in_numbers(0, 3, n as u16),
+    }
+}
+
+// What is to be written to R9 and R10.
+fn endpoints_number(endpoints: Endpoints) -> u8
+    ensures { λ r. ⌜ r ≡ endpointsNumber endpoints ⌝ }
+{
+    match endpoints {
+        Endpoints::Unchanged => 0,
+        Endpoints::ClearHalt => 1,
+        Endpoints::SetHalt => 2,
+        Endpoints::Configure => 3,
+    }
+}
+
 fn flat_transfer(answer: TransferAnswer) -> FlatAnswer
     ensures { λ r. ⌜ r ≡ flatTransfer answer ⌝ }
 {
@@ -157,6 +196,22 @@ fn flat_step(answer: BoardStep) -> FlatBoardAnswer
     }
 }
 
+fn flat_request(answer: RequestAnswer) -> FlatRequestAnswer
+    ensures { λ r. ⌜ r ≡ flatRequest answer ⌝ }
+{
+    let firmware = answer.firmware;
+    let reply = answer.reply;
+    let endpoints = answer.endpoints;
+    let n = request_numbers(reply);
+    FlatRequestAnswer {
+        firmware: FlatFirmware::from_model(firmware),
+        refusal: n.refusal,
+        kind: n.kind,
+        endpoints: endpoints_number(endpoints),
+        count: n.count,
+    }
+}
+
 // Refusal 1, the records as given: a flag is neither 0 nor 1.
 fn unflagged(chip: FlatChip) -> FlatAnswer
     ensures { λ r. ⌜ r ≡ unflagged chip ⌝ }
@@ -166,7 +221,7 @@ fn unflagged(chip: FlatChip) -> FlatAnswer
     let pin = registers.pin();
     FlatAnswer {
         chip,
-        refusal: 1,
+        refusal: UNSOUND,
         pid: 0,
         count: 0,
         pin: pin_number(pin),
@@ -184,6 +239,18 @@ fn unflagged_board(chip: FlatChip, firmware: FlatFirmware) -> FlatBoardAnswer
         kind: 0,
         count: 0,
         pin: answer.pin,
+    }
+}
+
+fn unflagged_firmware(firmware: FlatFirmware) -> FlatRequestAnswer
+    ensures { λ r. ⌜ r ≡ unflaggedFirmware firmware ⌝ }
+{
+    FlatRequestAnswer {
+        firmware,
+        refusal: UNSOUND,
+        kind: 0,
+        endpoints: 0,
+        count: 0,
     }
 }
 
@@ -257,4 +324,19 @@ pub extern "C" fn max3420e_board_step(
         firmware: firmware.to_model(),
     };
     flat_step(board::step(board, reply))
+}
+
+#[no_mangle]
+pub extern "C" fn max3420e_firmware_answer(
+    firmware: FlatFirmware,
+    setup: &[u8],
+    reply: &mut [u8],
+) -> FlatRequestAnswer
+    ensures { λ r. ⌜ (r ≡ requestFlat firmware (now (setup .entry)) (now (reply .entry)))
+        × (now (reply .exit) ≡ requestFlatBuffer firmware (now (setup .entry)) (now (reply .entry))) ⌝ }
+{
+    if !firmware.has_flags() {
+        return unflagged_firmware(firmware);
+    }
+    flat_request(firmware::answer(setup, firmware.to_model(), reply))
 }

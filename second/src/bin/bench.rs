@@ -21,7 +21,7 @@ mod measured {
     use second::compare::{Given, Other, Second};
     use second::library::Library;
     use second::runs::*;
-    use second::{ffi, Answer, BoardAnswer, Chip, Firmware};
+    use second::{ffi, Answer, BoardAnswer, Chip, Firmware, FirmwareAnswer};
     use std::hint::black_box;
     use std::time::Instant;
 
@@ -121,6 +121,11 @@ mod measured {
         pub fn board_step(chip: Chip, firmware: Firmware, reply: &mut [u8]) -> BoardAnswer {
             second::board_step(chip, firmware, reply)
         }
+
+        #[inline(never)]
+        pub fn firmware_answer(firmware: Firmware, setup: &[u8], reply: &mut [u8]) -> FirmwareAnswer {
+            second::firmware_answer(setup, firmware, reply)
+        }
     }
 
     /// Then by C's, as the library's functions are called. The slices are Rust's; no C program calls these.
@@ -141,6 +146,11 @@ mod measured {
         #[inline(never)]
         pub extern "C" fn board_step(chip: Chip, firmware: Firmware, reply: &mut [u8]) -> BoardAnswer {
             second::board_step(chip, firmware, reply)
+        }
+
+        #[inline(never)]
+        pub extern "C" fn firmware_answer(firmware: Firmware, setup: &[u8], reply: &mut [u8]) -> FirmwareAnswer {
+            second::firmware_answer(setup, firmware, reply)
         }
     }
 
@@ -186,6 +196,26 @@ mod measured {
         }};
     }
 
+    /// The firmware alone, asked for the device descriptor.
+    fn print_firmware() {
+        let setup = &[0x80, 6, 0, 1, 0, 0, 64, 0][..];
+        let reply = &mut [0; 80][..];
+        let (ours, theirs) = (Firmware::power_on(), ffi::Firmware { configuration: 0, wakeup: 0, halted: 0 });
+        let (mut library, mut in_c, mut in_rust) = (f64::INFINITY, f64::INFINITY, f64::INFINITY);
+        for _ in 0..ROUNDS {
+            library =
+                library.min(time(|| ffi::firmware_answer(black_box(theirs), black_box(setup), black_box(&mut *reply))));
+            in_c = in_c.min(time(|| by_c::firmware_answer(black_box(ours), black_box(setup), black_box(&mut *reply))));
+            in_rust =
+                in_rust.min(time(|| by_rust::firmware_answer(black_box(ours), black_box(setup), black_box(&mut *reply))));
+        }
+        print_row("firmware answer, device descriptor", library, in_c, in_rust);
+    }
+
+    fn print_row(name: &str, library: f64, in_c: f64, in_rust: f64) {
+        println!("| {name} | {library:.0} | {in_c:.0} | {:.2} | {in_rust:.0} |", library / in_c);
+    }
+
     fn machine() -> String {
         let text = std::fs::read_to_string("/proc/cpuinfo").unwrap_or_default();
         let names: Vec<&str> = text.lines().filter(|line| line.starts_with("model name")).collect();
@@ -204,13 +234,14 @@ mod measured {
         println!("|---|---:|---:|---:|---:|");
         for case in cases() {
             check(&case);
-            let (mut library, mut by_c, mut by_rust) = (f64::INFINITY, f64::INFINITY, f64::INFINITY);
+            let (mut library, mut in_c, mut in_rust) = (f64::INFINITY, f64::INFINITY, f64::INFINITY);
             for _ in 0..ROUNDS {
                 library = library.min(time_library(&case));
-                by_c = by_c.min(time_second!(&case, by_c));
-                by_rust = by_rust.min(time_second!(&case, by_rust));
+                in_c = in_c.min(time_second!(&case, by_c));
+                in_rust = in_rust.min(time_second!(&case, by_rust));
             }
-            println!("| {} | {library:.0} | {by_c:.0} | {:.2} | {by_rust:.0} |", case.name, library / by_c);
+            print_row(case.name, library, in_c, in_rust);
         }
+        print_firmware();
     }
 }
