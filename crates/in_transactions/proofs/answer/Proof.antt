@@ -22,7 +22,8 @@ returns : tie.Need-returns
 returns c =
     let a = c .before .before .before .before .before .before .before .before .args in
     let told = c .before .before .before .before .reply-at .ensures (a .acknowledged) in
-    rw (← c .before .before .before .before .before .before .verdict-at .ensures) (rw (c .answer-with .ensures, c .before .chip-at .ensures, told .0), told .1)
+    let verdict = c .before .before .before .before .before .before .verdict-at in
+    rw (← verdict .ensures) (rw (c .answer-with .ensures, c .before .chip-at .ensures, told .0), told .1)
 
 pub answer-spec : {M : Type 1} → statement M
 answer-spec =

@@ -43,7 +43,8 @@ same-length c = search needs
 returns-4 : tie.Need-returns-4
 returns-4 c =
     let copied = c .before .before .before .before .copy-at in
-    λ k. rw (c .before .before .before .before .before .before .enum-told4 .given .1, copied .ensures .0) (rw (c .data-packet .ensures, c .before .toggle-at .ensures), copied .ensures .1)
+    let told = c .before .before .before .before .before .before .enum-told4 in
+    λ k. rw (told .given .1, copied .ensures .0) (rw (c .data-packet .ensures, c .before .toggle-at .ensures), copied .ensures .1)
 
 returns-5 : tie.Need-returns-5
 returns-5 c = λ k. rw (c .enum-told5 .given .1) (refl, refl)
