@@ -22,9 +22,10 @@ use Rattle.chip.specs.Mask.{out0davirq}
 use Rattle.chip.specs.Set.{setEp0, setEp1, setEp2, setEp3}
 use Rattle.model.specs.Reply.{Outcome, outcome}
 use Rattle.rules.specs.Write.{storeFifo}
-use Rattle.rules.specs.Read.{ep0At}
+use Rattle.rules.specs.Read.{readFifo, ep0At}
 use Rattle.rules.specs.Spi.{stepRegister, max3420eSpi}
 use Rattle.fifos.specs.Fifo.{positionTo}
+use Rattle.fifos.proofs.Read.{fifo-gives, fifo-state}
 use Rattle.bursts.specs.Burst.{Filling, filling, limitOf, fillTo, fillingSpi, packetSpi, Burst}
 use Rattle.bursts.proofs.Part.{put-back}
 
@@ -42,20 +43,18 @@ stores-first put busy s b =
     let p = s .position in
     stores put busy 0 s b ∙ ap (λ (k : ℕ). storeFifo p busy (put s) (put (filling (set (s .bytes) k b) (p + 1)))) (zero-add p)
 
--- what a read of a packet moves, and its byte
-abbrev readAt : {R : Type 0} → (ℕ → R) → ℕ → ℕ → ℕ → Outcome R ℕ
-readAt put end p byte = cond (ltb p end) (outcome (put (p + 1)) byte) (outcome (put p) 0)
-
-moves : {R : Type 0} (put : ℕ → R) (end p byte : ℕ) → put (positionTo p end) ≡ readAt put end p byte .state
-moves put end p byte = elim (decLt p end) [ yes l ↦ rw (lt-ltb p end l) | no g ↦ rw (le-ltb p end (omega arith)) ]
-
-gives : {R : Type 0} (put : ℕ → R) (packet : List ℕ) (p byte : ℕ) → (p < length packet → byte ≡ getD packet p 0)
-    → getD packet p 0 ≡ readAt put (length packet) p byte .gives
-gives put packet p byte same =
+-- the byte at a place of a packet, 0 past its end
+byte-within : (packet : List ℕ) (p byte : ℕ) → (p < length packet → byte ≡ getD packet p 0)
+    → getD packet p 0 ≡ cond (ltb p (length packet)) byte 0
+byte-within packet p byte same =
     elim (decLt p (length packet)) [
       | yes l ↦ rw (lt-ltb p (length packet) l) (sym (same l))
       | no g ↦ rw (le-ltb p (length packet) (omega arith)) (List·getD-eq-default packet 0 (omega arith))
     ]
+
+-- a read at place p of a packet that ends there
+abbrev readAt : (ℕ → Chip) → ℕ → ℕ → ℕ → Outcome Chip ℕ
+readAt put end p byte = readFifo (ltb p end) byte (put (p + 1)) (put p)
 
 -- ---- the endpoints
 
@@ -115,8 +114,9 @@ read-back : (n : ℕ) → stepRegister n ≡ n → (put : ℕ → Chip) (packet 
     → Burst (packetSpi packet) p q false 0 bytes reply out → Burst max3420eSpi (put p) (put q) false n bytes reply out
 read-back n stays put packet byte same rule =
     put-back max3420eSpi (λ (p b : ℕ). p) (λ (p : ℕ). outcome (positionTo p (length packet)) (getD packet p 0)) put false n stays
-    (λ p b. moves put (length packet) p (byte p) ∙ ap (λ (o : Outcome Chip ℕ). o .state) (rule p))
-    (λ p. gives put packet p (byte p) (same p) ∙ ap (λ (o : Outcome Chip ℕ). o .gives) (rule p))
+    (λ p b. fifo-state (ltb p (length packet)) (byte p) p put ∙ ap (λ (o : Outcome Chip ℕ). o .state) (rule p))
+    (λ p. byte-within packet p (byte p) (same p) ∙ fifo-gives (ltb p (length packet)) (byte p) (put (p + 1)) (put p)
+    ∙ ap (λ (o : Outcome Chip ℕ). o .gives) (rule p))
 
 pub read-ep0 : (c : Chip) (e : Endpoint0) → e .count ≤ length (e .bytes) → (bytes reply out : List ℕ) (q : ℕ)
     → Burst (packetSpi (take (e .count) (e .bytes))) (e .readpos) q false 0 bytes reply out

@@ -1,6 +1,5 @@
 -- Reads of R0, R1 and R4: the byte, and the record with its position moved, from what the endpoint gives.
-use mathlib.Core.Path.{_≡_, refl, sym, _∙_}
-use mathlib.Core.Bool.{Bool, true, false, cond}
+use mathlib.Core.Path.{_≡_}
 use Prim.Native.Nat.{ℕ, _+_}
 use lib.Dec.{ltb}
 use lib.ListN.{getD}
@@ -8,18 +7,9 @@ use Rattle.ring.specs.Ring.{oldestCount, oldestPacket}
 use Rattle.chip.specs.declared.Endpoint1.{Endpoint1}
 use Rattle.chip.specs.declared.Chip.{Chip}
 use Rattle.chip.specs.Set.{setEp0, setEp1}
-use Rattle.model.specs.Reply.{Outcome}
-use Rattle.rules.specs.Read.{readFifo, ep0At, ep1Read, readEp0fifo, readEp1outfifo, readSudfifo}
+use Rattle.rules.specs.Read.{ep0At, ep1Read, readEp0fifo, readEp1outfifo, readSudfifo}
+use Rattle.fifos.proofs.Read.{fifo-gives, fifo-state}
 use Rattle.fifos.specs.Fifo.{positionTo, ep0ByteOf, ep1ByteOf, setupByteOf}
-
-fifo-gives : (left : Bool) (byte : ℕ) (moved c : Chip) → cond left byte 0 ≡ readFifo left byte moved c .gives
-fifo-gives true byte moved c = refl
-fifo-gives false byte moved c = refl
-
--- the position moves, or the record stays
-fifo-state : (left : Bool) (byte p : ℕ) (put : ℕ → Chip) → put (cond left (p + 1) p) ≡ readFifo left byte (put (p + 1)) (put p) .state
-fifo-state true byte p put = refl
-fifo-state false byte p put = refl
 
 -- ---- R0
 
