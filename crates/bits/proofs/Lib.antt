@@ -1,5 +1,6 @@
 pub mod Cases
 pub mod First
+pub mod Flag
 pub mod Rows
 pub mod Bit
 pub mod Mask
