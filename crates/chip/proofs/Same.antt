@@ -1,11 +1,11 @@
 -- Two records that are the same by the test are equal.
 use mathlib.Core.Path.{_≡_, refl, sym, ap, ap₂}
-use mathlib.Core.Bool.{Bool, true, Bool·beq}
+use mathlib.Core.Bool.{true}
 use mathlib.Core.List.{List, [], _∷_}
 use Prim.Native.Nat.{ℕ}
 use lib.Dec.{eqb}
 use borrow.Author.Tests.{eqb-true}
-use Rattle.bits.proofs.Cases.{and-true, clause-at, beq-eq, true-is-false}
+use Rattle.bits.proofs.Cases.{and-true, clause-at, true-is-false}
 use Rattle.ring.specs.declared.Ring.{Ring}
 use Rattle.chip.specs.declared.Endpoint0.{Endpoint0}
 use Rattle.chip.specs.declared.Endpoint1.{Endpoint1}
@@ -41,18 +41,18 @@ same-ring a b e =
 same-ep0 : (a b : Endpoint0) → sameEp0 a b ≡ true → a ≡ b
 same-ep0 a b e =
     let c = clause-at (sameNumbers (a .bytes) (b .bytes) ∷ sameNumbers (a .setup) (b .setup) ∷ eqb (a .count) (b .count) ∷
-    Bool·beq (a .armed) (b .armed) ∷ eqb (a .readpos) (b .readpos) ∷ eqb (a .writepos) (b .writepos) ∷ eqb (a .setuppos) (b .setuppos) ∷
-    Bool·beq (a .intoggle) (b .intoggle) ∷ Bool·beq (a .outtoggle) (b .outtoggle) ∷ Bool·beq (a .current) (b .current) ∷ []) e in
+    eqb (a .armed) (b .armed) ∷ eqb (a .readpos) (b .readpos) ∷ eqb (a .writepos) (b .writepos) ∷ eqb (a .setuppos) (b .setuppos) ∷
+    eqb (a .intoggle) (b .intoggle) ∷ eqb (a .outtoggle) (b .outtoggle) ∷ eqb (a .current) (b .current) ∷ []) e in
     let e0 = same-numbers (a .bytes) (b .bytes) (c 0) in
     let e1 = same-numbers (a .setup) (b .setup) (c 1) in
     let e2 = eqb-true (a .count) (b .count) (c 2) in
-    let e3 = beq-eq (a .armed) (b .armed) (c 3) in
+    let e3 = eqb-true (a .armed) (b .armed) (c 3) in
     let e4 = eqb-true (a .readpos) (b .readpos) (c 4) in
     let e5 = eqb-true (a .writepos) (b .writepos) (c 5) in
     let e6 = eqb-true (a .setuppos) (b .setuppos) (c 6) in
-    let e7 = beq-eq (a .intoggle) (b .intoggle) (c 7) in
-    let e8 = beq-eq (a .outtoggle) (b .outtoggle) (c 8) in
-    let e9 = beq-eq (a .current) (b .current) (c 9) in
+    let e7 = eqb-true (a .intoggle) (b .intoggle) (c 7) in
+    let e8 = eqb-true (a .outtoggle) (b .outtoggle) (c 8) in
+    let e9 = eqb-true (a .current) (b .current) (c 9) in
     λ i. record {
       bytes = e0 i;
       setup = e1 i;
@@ -69,38 +69,38 @@ same-ep0 a b e =
 
 same-ep1 : (a b : Endpoint1) → sameEp1 a b ≡ true → a ≡ b
 same-ep1 a b e =
-    let c = clause-at (sameRing (a .ring) (b .ring) ∷ eqb (a .readpos) (b .readpos) ∷ Bool·beq (a .toggle) (b .toggle) ∷ []) e in
+    let c = clause-at (sameRing (a .ring) (b .ring) ∷ eqb (a .readpos) (b .readpos) ∷ eqb (a .toggle) (b .toggle) ∷ []) e in
     let e0 = same-ring (a .ring) (b .ring) (c 0) in
     let e1 = eqb-true (a .readpos) (b .readpos) (c 1) in
-    let e2 = beq-eq (a .toggle) (b .toggle) (c 2) in
+    let e2 = eqb-true (a .toggle) (b .toggle) (c 2) in
     λ i. record { ring = e0 i; readpos = e1 i; toggle = e2 i }
 
 same-ep2 : (a b : Endpoint2) → sameEp2 a b ≡ true → a ≡ b
 same-ep2 a b e =
     let c = clause-at (sameRing (a .ring) (b .ring) ∷ eqb (a .count) (b .count) ∷ eqb (a .writepos) (b .writepos) ∷
-    Bool·beq (a .toggle) (b .toggle) ∷ []) e in
+    eqb (a .toggle) (b .toggle) ∷ []) e in
     let e0 = same-ring (a .ring) (b .ring) (c 0) in
     let e1 = eqb-true (a .count) (b .count) (c 1) in
     let e2 = eqb-true (a .writepos) (b .writepos) (c 2) in
-    let e3 = beq-eq (a .toggle) (b .toggle) (c 3) in
+    let e3 = eqb-true (a .toggle) (b .toggle) (c 3) in
     λ i. record { ring = e0 i; count = e1 i; writepos = e2 i; toggle = e3 i }
 
 same-ep3 : (a b : Endpoint3) → sameEp3 a b ≡ true → a ≡ b
 same-ep3 a b e =
-    let c = clause-at (sameNumbers (a .bytes) (b .bytes) ∷ eqb (a .count) (b .count) ∷ Bool·beq (a .armed) (b .armed) ∷
-    eqb (a .writepos) (b .writepos) ∷ Bool·beq (a .toggle) (b .toggle) ∷ []) e in
+    let c = clause-at (sameNumbers (a .bytes) (b .bytes) ∷ eqb (a .count) (b .count) ∷ eqb (a .armed) (b .armed) ∷
+    eqb (a .writepos) (b .writepos) ∷ eqb (a .toggle) (b .toggle) ∷ []) e in
     let e0 = same-numbers (a .bytes) (b .bytes) (c 0) in
     let e1 = eqb-true (a .count) (b .count) (c 1) in
-    let e2 = beq-eq (a .armed) (b .armed) (c 2) in
+    let e2 = eqb-true (a .armed) (b .armed) (c 2) in
     let e3 = eqb-true (a .writepos) (b .writepos) (c 3) in
-    let e4 = beq-eq (a .toggle) (b .toggle) (c 4) in
+    let e4 = eqb-true (a .toggle) (b .toggle) (c 4) in
     λ i. record { bytes = e0 i; count = e1 i; armed = e2 i; writepos = e3 i; toggle = e4 i }
 
 same-power : (a b : Power) → samePower a b ≡ true → a ≡ b
 same-power a b e =
-    let c = clause-at (Bool·beq (a .vbus) (b .vbus) ∷ Bool·beq (a .oscok) (b .oscok) ∷ []) e in
-    let e0 = beq-eq (a .vbus) (b .vbus) (c 0) in
-    let e1 = beq-eq (a .oscok) (b .oscok) (c 1) in
+    let c = clause-at (eqb (a .vbus) (b .vbus) ∷ eqb (a .oscok) (b .oscok) ∷ []) e in
+    let e0 = eqb-true (a .vbus) (b .vbus) (c 0) in
+    let e1 = eqb-true (a .oscok) (b .oscok) (c 1) in
     λ i. record { vbus = e0 i; oscok = e1 i }
 
 pub same-chip : (a b : Chip) → sameChip a b ≡ true → a ≡ b

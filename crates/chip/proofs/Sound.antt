@@ -4,22 +4,23 @@ use mathlib.Core.Logic.{_≢_}
 use mathlib.Core.Bool.{Bool, true, false, not, Bool·beq}
 use mathlib.Core.List.{List, [], _∷_}
 use Prim.Native.Nat.{ℕ, zero, suc, _≤_, _<_}
-use native.Mathlib.Decide.{decLt, ℕ-discrete}
 use native.Mathlib.Omega.{arith}
 use lib.Dec.{ltb, leb}
 use lib.ListN.{length, getD, set}
-use lib.Seq.{getD-set-same, getD-set-other, set-out}
 use borrow.Author.Tests.{leb-true, le-leb, not-false}
 use Rattle.bits.specs.Bit.{lacks, has}
 use Rattle.bits.specs.Clauses.{clauses}
+use Rattle.bits.specs.Flag.{isOn}
 use Rattle.bits.proofs.Cases.{clause-at, clauses-all, beq-eq, beq-refl}
+use Rattle.bits.proofs.Flag.{Flags, flags-clauses, clauses-flags}
 use Rattle.bits.proofs.Mask.{has-none}
+use Rattle.bits.proofs.Rows.{set-keeps}
 use Rattle.ring.specs.declared.Ring.{Ring}
 use Rattle.ring.specs.Ring.{soundRing}
 use Rattle.chip.specs.declared.Chip.{Chip}
 use Rattle.chip.specs.Mask.{in2bavirq, in3bavirq, out1davirq}
-use Rattle.chip.specs.Record.{bytesOf}
-use Rattle.chip.specs.Sound.{soundEp0, soundEp1, soundEp2, soundEp3, lackEach, unusedRegisters, soundRegisters, soundIrqs, soundChip}
+use Rattle.chip.specs.Record.{bytesOf, flagsOf}
+use Rattle.chip.specs.Sound.{soundEp0, soundEp1, soundEp2, soundEp3, lackEach, unusedRegisters, soundRegisters, soundIrqs, soundFlags, soundChip}
 
 -- ---- the clauses of each part, over what they speak of alone
 
@@ -40,10 +41,10 @@ pub record SoundEp2 (q : Ring) (n w : ℕ) (bav : Bool) : Type 0 where
   pub writepos : w ≤ 64
   pub irq : bav ≡ ltb (q .waiting) 2
 
-pub record SoundEp3 (n w : ℕ) (armed bav : Bool) : Type 0 where
+pub record SoundEp3 (n w armed : ℕ) (bav : Bool) : Type 0 where
   pub count : n ≤ 64
   pub writepos : w ≤ 64
-  pub irq : bav ≡ not armed
+  pub irq : bav ≡ not (isOn armed)
 
 -- each number of a list lacks the bits of its mask
 abbrev pub Clean : List ℕ → List ℕ → Type 0
@@ -55,19 +56,13 @@ pub record Sound (c : Chip) : Type 0 where
   pub ep2 : SoundEp2 (c .ep2 .ring) (c .ep2 .count) (c .ep2 .writepos) (has (c .registers .epirq) in2bavirq)
   pub ep3 : SoundEp3 (c .ep3 .count) (c .ep3 .writepos) (c .ep3 .armed) (has (c .registers .epirq) in3bavirq)
   pub unused : Clean (bytesOf (c .registers)) unusedRegisters
+  pub flags : Flags (flagsOf c)
 
 -- ---- unused bits
 
 -- one number of the list is replaced by one that lacks its mask
 pub clean-set : (xs ms : List ℕ) (i x : ℕ) → Clean xs ms → has x (getD ms i 0) ≡ false → Clean (set xs i x) ms
-clean-set xs ms i x h new j = elim (ℕ-discrete j i) [
-  | yes e ↦
-      elim (decLt i (length xs)) [
-        | yes l ↦ rw (e, getD-set-same xs i x 0 l) new
-        | no g ↦ rw (set-out xs i x (omega arith)) (h j)
-      ]
-  | no e ↦ rw (getD-set-other xs i j x 0 e) (h j)
-]
+clean-set xs ms i x h new = set-keeps (λ (j y : ℕ). has y (getD ms j 0) ≡ false) xs i x h new
 
 -- by any number, where the mask has no bit; the last argument is refl at a numeral
 pub clean-set-any : (xs ms : List ℕ) (i x : ℕ) → Clean xs ms → getD ms i 0 ≡ 0 → Clean (set xs i x) ms
@@ -87,14 +82,14 @@ unfolding soundChip
 sound-clauses c t =
     let g = c .registers in
     let part = clause-at (soundEp0 (c .ep0) ∷ soundEp1 (c .ep1) ∷ soundEp2 (c .ep2) ∷ soundEp3 (c .ep3) ∷ soundRegisters g ∷ soundIrqs c ∷
-    []) t in
+    soundFlags c ∷ []) t in
     let ep0 = clause-at (leb (c .ep0 .count) 64 ∷ leb (c .ep0 .readpos) 64 ∷ leb (c .ep0 .writepos) 64 ∷ leb (c .ep0 .setuppos) 8 ∷ [])
     (part 0) in
     let ep1 = clause-at (soundRing 2 (c .ep1 .ring) ∷ leb (c .ep1 .readpos) 64 ∷ []) (part 1) in
     let ep2 = clause-at (soundRing 2 (c .ep2 .ring) ∷ leb (c .ep2 .count) 64 ∷ leb (c .ep2 .writepos) 64 ∷ []) (part 2) in
     let ep3 = clause-at (leb (c .ep3 .count) 64 ∷ leb (c .ep3 .writepos) 64 ∷ []) (part 3) in
     let irqs = clause-at
-    (Bool·beq (has (g .epirq) in2bavirq) (ltb (c .ep2 .ring .waiting) 2) ∷ Bool·beq (has (g .epirq) in3bavirq) (not (c .ep3 .armed)) ∷
+    (Bool·beq (has (g .epirq) in2bavirq) (ltb (c .ep2 .ring .waiting) 2) ∷ Bool·beq (has (g .epirq) in3bavirq) (not (isOn (c .ep3 .armed))) ∷
     Bool·beq (has (g .epirq) out1davirq) (ltb 0 (c .ep1 .ring .waiting)) ∷ []) (part 5) in
     record {
       ep0 = record {
@@ -117,9 +112,10 @@ sound-clauses c t =
       ep3 = record {
         count = leb-true (c .ep3 .count) 64 (ep3 0);
         writepos = leb-true (c .ep3 .writepos) 64 (ep3 1);
-        irq = beq-eq (has (g .epirq) in3bavirq) (not (c .ep3 .armed)) (irqs 1);
+        irq = beq-eq (has (g .epirq) in3bavirq) (not (isOn (c .ep3 .armed))) (irqs 1);
       };
       unused = λ i. ap not (sym (lack-at (bytesOf g) unusedRegisters i refl) ∙ clause-at (lackEach (bytesOf g) unusedRegisters) (part 4) i);
+      flags = flags-clauses (flagsOf c) (part 6);
     }
 
 registers-sound : (c : Chip) → Clean (bytesOf (c .registers)) unusedRegisters → soundRegisters (c .registers) ≡ true
@@ -144,10 +140,11 @@ clauses-sound c s =
       le-leb (c .ep3 .count) 64 (s .ep3 .count),
       le-leb (c .ep3 .writepos) 64 (s .ep3 .writepos),
       registers-sound c (s .unused),
+      clauses-flags (flagsOf c) (s .flags),
       s .ep2 .irq,
       s .ep3 .irq,
       s .ep1 .irq,
       beq-refl (ltb (c .ep2 .ring .waiting) 2),
-      beq-refl (not (c .ep3 .armed)),
+      beq-refl (not (isOn (c .ep3 .armed))),
       beq-refl (ltb 0 (c .ep1 .ring .waiting)),
     )

@@ -1,6 +1,5 @@
--- The record at power-on, its registers as a list, and what its control registers read. Document 01, "The record"; 000,
+-- The record at power-on, its registers and its flags as lists, and what its control registers read. Document 01, "The record"; 000,
 -- register map.
-use mathlib.Core.Bool.{false}
 use mathlib.Core.List.{List, [], _∷_}
 use Prim.Native.Nat.{ℕ, _-_}
 use lib.ListN.{getD, replicate}
@@ -41,6 +40,13 @@ controlRegisters c = c .ep0 .count ∷ oldestCount 2 (c .ep1 .ring) ∷ c .ep2 .
 abbrev pub controlRegister : Chip → ℕ → ℕ
 controlRegister c n = getD (controlRegisters c) (n - 5) 0
 
+-- ---- the flags as a list, in their order
+
+abbrev pub flagsOf : Chip → List ℕ
+flagsOf c =
+    c .ep0 .armed ∷ c .ep0 .intoggle ∷ c .ep0 .outtoggle ∷ c .ep0 .current ∷ c .ep1 .toggle ∷ c .ep2 .toggle ∷ c .ep3 .armed ∷
+    c .ep3 .toggle ∷ c .power .vbus ∷ c .power .oscok ∷ []
+
 -- ---- power-on
 
 -- the IN buffers are available: IN0BAVIRQ, IN2BAVIRQ and IN3BAVIRQ are 1 (000 pages 40, 42, 44), all else 0
@@ -54,17 +60,17 @@ powerOnChip = record {
     bytes = replicate 64 0;
     setup = replicate 8 0;
     count = 0;
-    armed = false;
+    armed = 0;
     readpos = 0;
     writepos = 0;
     setuppos = 0;
-    intoggle = false;
-    outtoggle = false;
-    current = false;
+    intoggle = 0;
+    outtoggle = 0;
+    current = 0;
   };
-  ep1 = record { ring = emptyRing; readpos = 0; toggle = false };
-  ep2 = record { ring = emptyRing; count = 0; writepos = 0; toggle = false };
-  ep3 = record { bytes = replicate 64 0; count = 0; armed = false; writepos = 0; toggle = false };
+  ep1 = record { ring = emptyRing; readpos = 0; toggle = 0 };
+  ep2 = record { ring = emptyRing; count = 0; writepos = 0; toggle = 0 };
+  ep3 = record { bytes = replicate 64 0; count = 0; armed = 0; writepos = 0; toggle = 0 };
   registers = powerOnRegisters;
-  power = record { vbus = false; oscok = false };
+  power = record { vbus = 0; oscok = 0 };
 }

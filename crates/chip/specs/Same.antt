@@ -1,5 +1,5 @@
 -- Whether two records are the same, part by part and field by field.
-use mathlib.Core.Bool.{Bool, true, false, _&&_, Bool·beq}
+use mathlib.Core.Bool.{Bool, true, false, _&&_}
 use mathlib.Core.List.{List, [], _∷_}
 use Prim.Native.Nat.{ℕ}
 use lib.Dec.{eqb}
@@ -31,26 +31,26 @@ sameRegisters a b = sameNumbers (bytesOf a) (bytesOf b)
 abbrev pub sameEp0 : Endpoint0 → Endpoint0 → Bool
 sameEp0 a b =
     clauses (sameNumbers (a .bytes) (b .bytes) ∷ sameNumbers (a .setup) (b .setup) ∷ eqb (a .count) (b .count) ∷
-    Bool·beq (a .armed) (b .armed) ∷ eqb (a .readpos) (b .readpos) ∷ eqb (a .writepos) (b .writepos) ∷ eqb (a .setuppos) (b .setuppos) ∷
-    Bool·beq (a .intoggle) (b .intoggle) ∷ Bool·beq (a .outtoggle) (b .outtoggle) ∷ Bool·beq (a .current) (b .current) ∷ [])
+    eqb (a .armed) (b .armed) ∷ eqb (a .readpos) (b .readpos) ∷ eqb (a .writepos) (b .writepos) ∷ eqb (a .setuppos) (b .setuppos) ∷
+    eqb (a .intoggle) (b .intoggle) ∷ eqb (a .outtoggle) (b .outtoggle) ∷ eqb (a .current) (b .current) ∷ [])
 
 abbrev pub sameEp1 : Endpoint1 → Endpoint1 → Bool
 sameEp1 a b =
-    clauses (sameRing (a .ring) (b .ring) ∷ eqb (a .readpos) (b .readpos) ∷ Bool·beq (a .toggle) (b .toggle) ∷ [])
+    clauses (sameRing (a .ring) (b .ring) ∷ eqb (a .readpos) (b .readpos) ∷ eqb (a .toggle) (b .toggle) ∷ [])
 
 abbrev pub sameEp2 : Endpoint2 → Endpoint2 → Bool
 sameEp2 a b =
     clauses (sameRing (a .ring) (b .ring) ∷ eqb (a .count) (b .count) ∷ eqb (a .writepos) (b .writepos) ∷
-    Bool·beq (a .toggle) (b .toggle) ∷ [])
+    eqb (a .toggle) (b .toggle) ∷ [])
 
 abbrev pub sameEp3 : Endpoint3 → Endpoint3 → Bool
 sameEp3 a b =
-    clauses (sameNumbers (a .bytes) (b .bytes) ∷ eqb (a .count) (b .count) ∷ Bool·beq (a .armed) (b .armed) ∷
-    eqb (a .writepos) (b .writepos) ∷ Bool·beq (a .toggle) (b .toggle) ∷ [])
+    clauses (sameNumbers (a .bytes) (b .bytes) ∷ eqb (a .count) (b .count) ∷ eqb (a .armed) (b .armed) ∷
+    eqb (a .writepos) (b .writepos) ∷ eqb (a .toggle) (b .toggle) ∷ [])
 
 abbrev pub samePower : Power → Power → Bool
 samePower a b =
-    clauses (Bool·beq (a .vbus) (b .vbus) ∷ Bool·beq (a .oscok) (b .oscok) ∷ [])
+    clauses (eqb (a .vbus) (b .vbus) ∷ eqb (a .oscok) (b .oscok) ∷ [])
 
 unfoldable pub sameChip : Chip → Chip → Bool
 sameChip a b =

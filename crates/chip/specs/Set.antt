@@ -1,5 +1,4 @@
 -- The record with one part, or one register, replaced.
-use mathlib.Core.Bool.{Bool}
 use Prim.Native.Nat.{ℕ, _-_}
 use lib.ListN.{set}
 use Rattle.chip.specs.Record.{bytesOf, ofBytes}
@@ -31,10 +30,10 @@ setRegisters x c = record { ep0 = c .ep0; ep1 = c .ep1; ep2 = c .ep2; ep3 = c .e
 abbrev pub setPower : Power → Chip → Chip
 setPower x c = record { ep0 = c .ep0; ep1 = c .ep1; ep2 = c .ep2; ep3 = c .ep3; registers = c .registers; power = x }
 
-abbrev pub withVbus : Bool → Power → Power
+abbrev pub withVbus : ℕ → Power → Power
 withVbus x p = record { vbus = x; oscok = p .oscok }
 
-abbrev pub withOscok : Bool → Power → Power
+abbrev pub withOscok : ℕ → Power → Power
 withOscok x p = record { vbus = p .vbus; oscok = x }
 
 -- ---- one register

@@ -1,6 +1,5 @@
--- When a record is sound: every clause of document 01, "It is sound when" (decision 29). A clause that a type of the record holds
--- by itself, as "0..1 wait at EP0 IN and EP3" (a bool), has no test. Ours, beyond the document's words: the oldest packet of a
--- ring is in one of its two buffers, and bits 4..2 of R10, which read back 0, count as unused.
+-- When a record is sound: every clause of document 01, "It is sound when" (decision 29). Ours, beyond the document's words: the
+-- oldest packet of a ring is in one of its two buffers; bits 4..2 of R10, which read back 0, count as unused; every flag is 0 or 1.
 use mathlib.Core.Bool.{Bool, not, Bool·beq}
 use mathlib.Core.List.{List, [], _∷_}
 use Prim.Native.Nat.{ℕ}
@@ -8,9 +7,10 @@ use lib.Dec.{ltb, leb}
 use lib.ListN.{drop}
 use Rattle.bits.specs.Bit.{has, lacks}
 use Rattle.bits.specs.Clauses.{clauses}
+use Rattle.bits.specs.Flag.{isOn, flagEach}
 use Rattle.ring.specs.Ring.{soundRing}
 use Rattle.chip.specs.Mask.{in2bavirq, in3bavirq, out1davirq, unused}
-use Rattle.chip.specs.Record.{bytesOf}
+use Rattle.chip.specs.Record.{bytesOf, flagsOf}
 use Rattle.chip.specs.declared.Endpoint0.{Endpoint0}
 use Rattle.chip.specs.declared.Endpoint1.{Endpoint1}
 use Rattle.chip.specs.declared.Endpoint2.{Endpoint2}
@@ -50,10 +50,14 @@ abbrev pub soundIrqs : Chip → Bool
 soundIrqs c =
     clauses
     (Bool·beq (has (c .registers .epirq) in2bavirq) (ltb (c .ep2 .ring .waiting) 2) ∷
-    Bool·beq (has (c .registers .epirq) in3bavirq) (not (c .ep3 .armed)) ∷
+    Bool·beq (has (c .registers .epirq) in3bavirq) (not (isOn (c .ep3 .armed))) ∷
     Bool·beq (has (c .registers .epirq) out1davirq) (ltb 0 (c .ep1 .ring .waiting)) ∷ [])
+
+-- flags are 0 or 1; so 0..1 packets wait at endpoint 0 IN and at endpoint 3
+abbrev pub soundFlags : Chip → Bool
+soundFlags c = clauses (flagEach (flagsOf c))
 
 unfoldable pub soundChip : Chip → Bool
 soundChip c =
     clauses (soundEp0 (c .ep0) ∷ soundEp1 (c .ep1) ∷ soundEp2 (c .ep2) ∷ soundEp3 (c .ep3) ∷ soundRegisters (c .registers) ∷ soundIrqs c ∷
-    [])
+    soundFlags c ∷ [])

@@ -3,54 +3,63 @@ use refusal::Refusal;
 use ring::Ring;
 ghost use mathlib.Core.Path.{_≡_};
 ghost use mathlib.Core.Bool.{cond};
+ghost use Rattle.bits.specs.Flag.{flipped};
 ghost use Rattle.chip.specs.Record.{powerOnRegisters, powerOnChip};
-ghost use Rattle.chip.specs.Sound.{soundEp0, soundEp1, soundEp2, soundEp3, soundRegisters, soundIrqs, soundChip};
+ghost use Rattle.chip.specs.Sound.{soundEp0, soundEp1, soundEp2, soundEp3, soundRegisters, soundIrqs, soundFlags, soundChip};
 ghost use Rattle.chip.specs.Pin.{interruptActive, pinOf, pinReply, pinNumber, pinRefusal, pinValue};
 
-// Endpoint 0: one buffer for both directions, and the setup bytes (SUDFIFO). A toggle is true for DATA1.
+// The record is laid out as C programs hold it (include/max3420e.h). A flag is a number, 1 for on and 0 for off, and so is a toggle,
+// 1 for DATA1; a record with another number there is not sound.
+
+// Endpoint 0: one buffer for both directions, and the setup bytes (SUDFIFO).
+#[repr(C)]
 pub struct Endpoint0 {
     pub bytes: [u8; 64],
     pub setup: [u8; 8],
     // R5, EP0BC: the count last armed or received.
     pub count: u8,
-    pub armed: bool,
+    pub armed: u8,
     // Positions of R0 for reads and writes, and of R4.
     pub readpos: u8,
     pub writepos: u8,
     pub setuppos: u8,
-    pub intoggle: bool,
-    pub outtoggle: bool,
+    pub intoggle: u8,
+    pub outtoggle: u8,
     // A SETUP was accepted since the last reset.
-    pub current: bool,
+    pub current: u8,
 }
 
 // Endpoint 1 OUT, double-buffered.
+#[repr(C)]
 pub struct Endpoint1 {
     pub ring: Ring,
     pub readpos: u8,
-    pub toggle: bool,
+    pub toggle: u8,
 }
 
 // Endpoint 2 IN, double-buffered.
+#[repr(C)]
 pub struct Endpoint2 {
     pub ring: Ring,
     // R7, EP2INBC: the count last armed.
     pub count: u8,
     pub writepos: u8,
-    pub toggle: bool,
+    pub toggle: u8,
 }
 
 // Endpoint 3 IN.
+#[repr(C)]
 pub struct Endpoint3 {
     pub bytes: [u8; 64],
     // R8, EP3INBC: the count last armed.
     pub count: u8,
-    pub armed: bool,
+    pub armed: u8,
     pub writepos: u8,
-    pub toggle: bool,
+    pub toggle: u8,
 }
 
 // R9 to R17, R19 and R20, by the maker's names. R18 is constant.
+#[repr(C)]
 pub struct Registers {
     pub epstalls: u8,
     pub clrtogs: u8,
@@ -66,13 +75,15 @@ pub struct Registers {
 }
 
 // What the chip is supplied with.
+#[repr(C)]
 pub struct Power {
     // The VBUS comparator's level.
-    pub vbus: bool,
+    pub vbus: u8,
     // The oscillator is stable (000 page 49).
-    pub oscok: bool,
+    pub oscok: u8,
 }
 
+#[repr(C)]
 pub struct Chip {
     pub ep0: Endpoint0,
     pub ep1: Endpoint1,
@@ -92,6 +103,13 @@ pub enum Pin {
 pub enum PinReply {
     Refused(Refusal),
     Level(Pin),
+}
+
+// A toggle that flips.
+pub fn flipped(toggle: u8) -> u8
+    ensures { λ r. ⌜ r ≡ flipped toggle ⌝ }
+{
+    if toggle == 1 { 0 } else { 1 }
 }
 
 impl Endpoint0 {
@@ -311,37 +329,34 @@ impl Chip {
                 bytes: [0u8; 64],
                 setup: [0u8; 8],
                 count: 0,
-                armed: false,
+                armed: 0,
                 readpos: 0,
                 writepos: 0,
                 setuppos: 0,
-                intoggle: false,
-                outtoggle: false,
-                current: false,
+                intoggle: 0,
+                outtoggle: 0,
+                current: 0,
             },
             ep1: Endpoint1 {
                 ring,
                 readpos: 0,
-                toggle: false,
+                toggle: 0,
             },
             ep2: Endpoint2 {
                 ring,
                 count: 0,
                 writepos: 0,
-                toggle: false,
+                toggle: 0,
             },
             ep3: Endpoint3 {
                 bytes: [0u8; 64],
                 count: 0,
-                armed: false,
+                armed: 0,
                 writepos: 0,
-                toggle: false,
+                toggle: 0,
             },
             registers: Registers::power_on(),
-            power: Power {
-                vbus: false,
-                oscok: false,
-            },
+            power: Power { vbus: 0, oscok: 0 },
         }
     }
 
@@ -351,8 +366,23 @@ impl Chip {
     {
         let irqs = self.registers.epirq;
         ((irqs & Chip::IN2BAVIRQ != 0) == (self.ep2.ring.waiting < 2))
-            & ((irqs & Chip::IN3BAVIRQ != 0) == !self.ep3.armed)
+            & ((irqs & Chip::IN3BAVIRQ != 0) == (self.ep3.armed != 1))
             & ((irqs & Chip::OUT1DAVIRQ != 0) == (0 < self.ep1.ring.waiting))
+    }
+
+    fn sound_flags(self) -> bool
+        ensures { λ r. ⌜ r ≡ soundFlags self ⌝ }
+    {
+        (self.ep0.armed <= 1)
+            & (self.ep0.intoggle <= 1)
+            & (self.ep0.outtoggle <= 1)
+            & (self.ep0.current <= 1)
+            & (self.ep1.toggle <= 1)
+            & (self.ep2.toggle <= 1)
+            & (self.ep3.armed <= 1)
+            & (self.ep3.toggle <= 1)
+            & (self.power.vbus <= 1)
+            & (self.power.oscok <= 1)
     }
 
     pub fn is_sound(self) -> bool
@@ -363,7 +393,13 @@ impl Chip {
         let c = self.ep2;
         let d = self.ep3;
         let g = self.registers;
-        a.is_sound() & b.is_sound() & c.is_sound() & d.is_sound() & g.is_sound() & self.sound_irqs()
+        a.is_sound()
+            & b.is_sound()
+            & c.is_sound()
+            & d.is_sound()
+            & g.is_sound()
+            & self.sound_irqs()
+            & self.sound_flags()
     }
 
     pub fn int_pin(self) -> PinReply

@@ -1,10 +1,12 @@
 -- What a reset leaves, of any record: power-on is the power-on record; every reset gives a sound record in which nothing
--- waits; which bytes become 0.
+-- waits, if what the chip is supplied with is sound; which bytes become 0.
 use mathlib.Core.Path.{_≡_, refl}
-use mathlib.Core.Bool.{true, false}
+use mathlib.Core.Bool.{true}
 use mathlib.Core.List.{[]}
+use Prim.Native.Nat.{ℕ, _≤_}
 use lib.ListN.{replicate}
 use lib.Bits.{and-zero-r}
+use borrow.Author.Tests.{le-leb}
 use Rattle.bits.proofs.Mask.{lacks-masked-cleared}
 use Rattle.ring.specs.Ring.{queue}
 use Rattle.chip.specs.declared.Chip.{Chip}
@@ -19,16 +21,21 @@ pub power-on-forgets : (c : Chip) → chipAfter PowerOn c ≡ powerOnChip
 unfolding powerOnChip
 power-on-forgets c = simp and-zero-r
 
--- every reset of every record is sound
-pub reset-sound : (k : Reset) (c : Chip) → soundChip (chipAfter k c) ≡ true
+-- every reset of every record is sound, if what it is supplied with is: the two flags that a reset may keep
+pub reset-sound : (k : Reset) (c : Chip) → c .power .vbus ≤ 1 → c .power .oscok ≤ 1 → soundChip (chipAfter k c) ≡ true
 unfolding soundChip
-reset-sound PowerOn c = simp and-zero-r
-reset-sound ChipReset c = simp (and-zero-r, lacks-masked-cleared 0xfc 0 (c .registers .usbctl) 0x03 refl refl)
-reset-sound BusReset c = simp (
+reset-sound PowerOn c vbus oscok = simp and-zero-r
+reset-sound ChipReset c vbus oscok = simp (
   and-zero-r,
   lacks-masked-cleared 0xfc 0 (c .registers .usbctl) 0x03 refl refl,
-  lacks-masked-cleared 0x01 0
-      (c .registers .cpuctl) 0xfe refl refl,
+  le-leb (c .power .vbus) 1 vbus,
+)
+reset-sound BusReset c vbus oscok = simp (
+  and-zero-r,
+  lacks-masked-cleared 0xfc 0 (c .registers .usbctl) 0x03 refl refl,
+  lacks-masked-cleared 0x01 0 (c .registers .cpuctl) 0xfe refl refl,
+  le-leb (c .power .vbus) 1 vbus,
+  le-leb (c .power .oscok) 1 oscok,
 )
 
 pub power-on-sound : soundChip powerOnChip ≡ true
@@ -37,8 +44,8 @@ power-on-sound = refl
 
 -- nothing waits
 pub reset-empties : (k : Reset) (c : Chip)
-    → (queue 2 (chipAfter k c .ep1 .ring) ≡ []) × (queue 2 (chipAfter k c .ep2 .ring) ≡ []) × (chipAfter k c .ep0 .armed ≡ false) ×
-    (chipAfter k c .ep3 .armed ≡ false)
+    → (queue 2 (chipAfter k c .ep1 .ring) ≡ []) × (queue 2 (chipAfter k c .ep2 .ring) ≡ []) × (chipAfter k c .ep0 .armed ≡ 0) ×
+    (chipAfter k c .ep3 .armed ≡ 0)
 reset-empties PowerOn c = (refl, refl, refl, refl)
 reset-empties ChipReset c = (refl, refl, refl, refl)
 reset-empties BusReset c = (refl, refl, refl, refl)

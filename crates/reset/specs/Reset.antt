@@ -36,29 +36,28 @@ ep0After k e = record {
   bytes = bytesAfter k 64 (e .bytes);
   setup = replicate 8 0;
   count = registerAfter k 5 (e .count);
-  armed = false;
+  armed = 0;
   readpos = 0;
   writepos = 0;
   setuppos = 0;
-  intoggle = false;
-  outtoggle = false;
-  current = false;
+  intoggle = 0;
+  outtoggle = 0;
+  current = 0;
 }
 
 abbrev pub ep1After : Reset → Endpoint1 → Endpoint1
-ep1After k e = record { ring = ringAfter k (e .ring); readpos = 0; toggle = false }
+ep1After k e = record { ring = ringAfter k (e .ring); readpos = 0; toggle = 0 }
 
 abbrev pub ep2After : Reset → Endpoint2 → Endpoint2
-ep2After k e = record { ring = ringAfter k (e .ring); count = registerAfter k 7 (e .count); writepos = 0; toggle = false }
+ep2After k e = record { ring = ringAfter k (e .ring); count = registerAfter k 7 (e .count); writepos = 0; toggle = 0 }
 
 abbrev pub ep3After : Reset → Endpoint3 → Endpoint3
 ep3After k e = record {
   bytes = bytesAfter k 64 (e .bytes);
   count = registerAfter k 8 (e .count);
-  armed = false;
+  armed = 0;
   writepos = 0;
-  toggle =
-      false;
+  toggle = 0;
 }
 
 -- R9 to R20 by the one rule
@@ -66,16 +65,16 @@ abbrev pub registersAfter : Reset → Registers → Registers
 registersAfter k g = ofBytes (allAfter k 9 (bytesOf g))
 
 -- the VBUS level is 0 at power-on and kept otherwise
-abbrev pub vbusAfter : Reset → Bool → Bool
-vbusAfter PowerOn b = false
-vbusAfter ChipReset b = b
-vbusAfter BusReset b = b
+abbrev pub vbusAfter : Reset → ℕ → ℕ
+vbusAfter PowerOn x = 0
+vbusAfter ChipReset x = x
+vbusAfter BusReset x = x
 
 -- the oscillator flag is 0 at power-on and chip reset, kept at bus reset (h)
-abbrev pub oscokAfter : Reset → Bool → Bool
-oscokAfter PowerOn b = false
-oscokAfter ChipReset b = false
-oscokAfter BusReset b = b
+abbrev pub oscokAfter : Reset → ℕ → ℕ
+oscokAfter PowerOn x = 0
+oscokAfter ChipReset x = 0
+oscokAfter BusReset x = x
 
 abbrev pub powerAfter : Reset → Power → Power
 powerAfter k p = record { vbus = vbusAfter k (p .vbus); oscok = oscokAfter k (p .oscok) }

@@ -217,13 +217,13 @@ fn ep0_after(reset: Reset, e: Endpoint0) -> Endpoint0
         bytes,
         setup: [0u8; 8],
         count: register_after(reset, 5, e.count),
-        armed: false,
+        armed: 0,
         readpos: 0,
         writepos: 0,
         setuppos: 0,
-        intoggle: false,
-        outtoggle: false,
-        current: false,
+        intoggle: 0,
+        outtoggle: 0,
+        current: 0,
     }
 }
 
@@ -235,7 +235,7 @@ fn ep1_after(reset: Reset, e: Endpoint1) -> Endpoint1
     Endpoint1 {
         ring,
         readpos: 0,
-        toggle: false,
+        toggle: 0,
     }
 }
 
@@ -248,7 +248,7 @@ fn ep2_after(reset: Reset, e: Endpoint2) -> Endpoint2
         ring,
         count: register_after(reset, 7, e.count),
         writepos: 0,
-        toggle: false,
+        toggle: 0,
     }
 }
 
@@ -260,9 +260,9 @@ fn ep3_after(reset: Reset, e: Endpoint3) -> Endpoint3
     Endpoint3 {
         bytes,
         count: register_after(reset, 8, e.count),
-        armed: false,
+        armed: 0,
         writepos: 0,
-        toggle: false,
+        toggle: 0,
     }
 }
 
@@ -271,13 +271,10 @@ fn power_after(reset: Reset, power: Power) -> Power
     ensures { λ r. ⌜ r ≡ powerAfter reset power ⌝ }
 {
     match reset {
-        Reset::PowerOn => Power {
-            vbus: false,
-            oscok: false,
-        },
+        Reset::PowerOn => Power { vbus: 0, oscok: 0 },
         Reset::ChipReset => Power {
             vbus: power.vbus,
-            oscok: false,
+            oscok: 0,
         },
         Reset::BusReset => power,
     }

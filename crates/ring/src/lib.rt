@@ -7,6 +7,7 @@ ghost use lib.ListN.{length, getD, drop};
 ghost use Rattle.ring.specs.Ring.{emptyRing, drained, soundRing, nextBuffer, oldestCount};
 ghost use Rattle.ring.specs.Ring.{oldestPacket, storeByte, armNext, fillNext, releaseOldest};
 
+#[repr(C)]
 pub struct Ring {
     // Buffer i stands at 64 * i.
     pub bytes: [u8; 128],

@@ -22,15 +22,19 @@ is-sound-requires-5 c κs = search needs
 sound-irqs-requires : tie.Need-sound-irqs-requires
 sound-irqs-requires c κs = search needs
 
+sound-flags-requires : tie.Need-sound-flags-requires
+sound-flags-requires c κs = search needs
+
 returns : tie.Need-returns
 unfolding soundChip
 returns c = rw (
-  c .before .before .before .before .before .is-sound .ensures,
-  c .before .before .before .before .is-sound2 .ensures,
-  c .before .before .before .is-sound3 .ensures,
-  c .before .before .is-sound4 .ensures,
-  c .before .is-sound5 .ensures,
-  c .sound-irqs .ensures,
+  c .before .before .before .before .before .before .is-sound .ensures,
+  c .before .before .before .before .before .is-sound2 .ensures,
+  c .before .before .before .before .is-sound3 .ensures,
+  c .before .before .before .is-sound4 .ensures,
+  c .before .before .is-sound5 .ensures,
+  c .before .sound-irqs .ensures,
+  c .sound-flags .ensures,
 )
 
 pub is-sound-spec : {M : Type 1} → statement M
@@ -43,4 +47,5 @@ is-sound-spec =
     is-sound-requires-4
     is-sound-requires-5
     sound-irqs-requires
+    sound-flags-requires
     returns)
