@@ -8,12 +8,13 @@ use native.Mathlib.Omega.{arith}
 use lib.Dec.{ltb}
 use lib.ListN.{length, length-append}
 use Rattle.bits.specs.Bit.{has}
+use Rattle.bits.proofs.Flag.{Flags}
 use Rattle.ring.specs.declared.Ring.{Ring}
 use Rattle.ring.specs.Ring.{queue, nextBuffer, Fits}
 use Rattle.ring.proofs.Laws.{queue-length}
 use Rattle.chip.specs.declared.Chip.{Chip}
 use Rattle.chip.specs.Mask.{in2bavirq, in3bavirq, out1davirq}
-use Rattle.chip.specs.Record.{bytesOf}
+use Rattle.chip.specs.Record.{bytesOf, flagsOf}
 use Rattle.chip.specs.Sound.{unusedRegisters}
 use Rattle.chip.proofs.Sound.{SoundEp0, SoundEp3, Clean, Sound}
 use Rattle.rules.specs.Seen.{connectionOf}
@@ -33,7 +34,7 @@ pub record Sends (s : Sender) (r : Ring) (w n : ℕ) (bav : Bool) : Type 0 where
   pub irq : bav ≡ ltb (r .waiting) 2
 
 -- endpoint 1: its ring, read position p, toggle and OUT1DAVIRQ
-pub record Receives (s : Receiver) (r : Ring) (p : ℕ) (toggle dav : Bool) : Type 0 where
+pub record Receives (s : Receiver) (r : Ring) (p toggle : ℕ) (dav : Bool) : Type 0 where
   pub fits : Fits 2 r
   pub queued : s .stored ≡ s .released ++ queue 2 r
   pub toggled : s .toggle ≡ toggle
@@ -41,13 +42,14 @@ pub record Receives (s : Receiver) (r : Ring) (p : ℕ) (toggle dav : Bool) : Ty
   pub irq : dav ≡ ltb 0 (r .waiting)
 
 -- all of them
-pub record Parts (S R C A D U : Type 0) : Type 0 where
+pub record Parts (S R C A D U F : Type 0) : Type 0 where
   pub sends : S
   pub receives : R
   pub connection : C
   pub ep0 : A
   pub ep3 : D
   pub unused : U
+  pub flags : F
 
 -- ---- of a ledger and a record
 
@@ -62,28 +64,87 @@ Agree l c =
     Parts (SendsOf l c) (ReceivesOf l c) (l .connection ≡ connectionOf c)
     (SoundEp0 (c .ep0 .count) (c .ep0 .readpos) (c .ep0 .writepos) (c .ep0 .setuppos))
     (SoundEp3 (c .ep3 .count) (c .ep3 .writepos) (c .ep3 .armed) (has (c .registers .epirq) in3bavirq))
-    (Clean (bytesOf (c .registers)) unusedRegisters)
+    (Clean (bytesOf (c .registers)) unusedRegisters) (Flags (flagsOf c))
 
 -- ---- one part replaced
 
-module _ {S R C A D U : Type 0} (i : Parts S R C A D U) where
-  pub with-sends : {S′ : Type 0} → S′ → Parts S′ R C A D U
-  with-sends x = record { sends = x; receives = i .receives; connection = i .connection; ep0 = i .ep0; ep3 = i .ep3; unused = i .unused }
+module _ {S R C A D U F : Type 0} (i : Parts S R C A D U F) where
+  pub with-sends : {S′ : Type 0} → S′ → Parts S′ R C A D U F
+  with-sends x = record {
+    sends = x;
+    receives = i .receives;
+    connection = i .connection;
+    ep0 = i .ep0;
+    ep3 = i .ep3;
+    unused = i .unused;
+    flags = i .flags;
+  }
 
-  pub with-receives : {R′ : Type 0} → R′ → Parts S R′ C A D U
-  with-receives x = record { sends = i .sends; receives = x; connection = i .connection; ep0 = i .ep0; ep3 = i .ep3; unused = i .unused }
+  pub with-receives : {R′ : Type 0} → R′ → Parts S R′ C A D U F
+  with-receives x = record {
+    sends = i .sends;
+    receives = x;
+    connection = i .connection;
+    ep0 = i .ep0;
+    ep3 = i .ep3;
+    unused = i .unused;
+    flags = i .flags;
+  }
 
-  pub with-connection : {C′ : Type 0} → C′ → Parts S R C′ A D U
-  with-connection x = record { sends = i .sends; receives = i .receives; connection = x; ep0 = i .ep0; ep3 = i .ep3; unused = i .unused }
+  pub with-connection : {C′ : Type 0} → C′ → Parts S R C′ A D U F
+  with-connection x = record {
+    sends = i .sends;
+    receives = i .receives;
+    connection = x;
+    ep0 = i .ep0;
+    ep3 = i .ep3;
+    unused = i .unused;
+    flags = i .flags;
+  }
 
-  pub with-ep0 : {A′ : Type 0} → A′ → Parts S R C A′ D U
-  with-ep0 x = record { sends = i .sends; receives = i .receives; connection = i .connection; ep0 = x; ep3 = i .ep3; unused = i .unused }
+  pub with-ep0 : {A′ : Type 0} → A′ → Parts S R C A′ D U F
+  with-ep0 x = record {
+    sends = i .sends;
+    receives = i .receives;
+    connection = i .connection;
+    ep0 = x;
+    ep3 = i .ep3;
+    unused = i .unused;
+    flags = i .flags;
+  }
 
-  pub with-ep3 : {D′ : Type 0} → D′ → Parts S R C A D′ U
-  with-ep3 x = record { sends = i .sends; receives = i .receives; connection = i .connection; ep0 = i .ep0; ep3 = x; unused = i .unused }
+  pub with-ep3 : {D′ : Type 0} → D′ → Parts S R C A D′ U F
+  with-ep3 x = record {
+    sends = i .sends;
+    receives = i .receives;
+    connection = i .connection;
+    ep0 = i .ep0;
+    ep3 = x;
+    unused = i .unused;
+    flags = i .flags;
+  }
 
-  pub with-unused : {U′ : Type 0} → U′ → Parts S R C A D U′
-  with-unused x = record { sends = i .sends; receives = i .receives; connection = i .connection; ep0 = i .ep0; ep3 = i .ep3; unused = x }
+  pub with-unused : {U′ : Type 0} → U′ → Parts S R C A D U′ F
+  with-unused x = record {
+    sends = i .sends;
+    receives = i .receives;
+    connection = i .connection;
+    ep0 = i .ep0;
+    ep3 = i .ep3;
+    unused = x;
+    flags = i .flags;
+  }
+
+  pub with-flags : {F′ : Type 0} → F′ → Parts S R C A D U F′
+  with-flags x = record {
+    sends = i .sends;
+    receives = i .receives;
+    connection = i .connection;
+    ep0 = i .ep0;
+    ep3 = i .ep3;
+    unused = i .unused;
+    flags = x;
+  }
 
 -- ---- consequences
 
@@ -103,4 +164,5 @@ agree-sound l c i = record {
   ep2 = record { ring = i .sends .fits .sound; count = i .sends .count; writepos = i .sends .writepos; irq = i .sends .irq };
   ep3 = i .ep3;
   unused = i .unused;
+  flags = i .flags;
 }

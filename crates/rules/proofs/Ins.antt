@@ -9,15 +9,17 @@ use lib.Dec.{eqb}
 use borrow.Author.Tests.{eqb-true, eqb-false, lt-ltb, not-true}
 use Rattle.bits.specs.Bit.{has, raised}
 use Rattle.bits.specs.First.{firstOf}
+use Rattle.bits.specs.Flag.{isOn}
 use Rattle.bits.proofs.Cases.{cond-elim, cond-same}
 use Rattle.bits.proofs.First.{first-elim, first-each, Each, none, _⨾_}
+use Rattle.bits.proofs.Flag.{flags-set, flipped-flag}
 use Rattle.bits.proofs.Mask.{has-or, has-and-none}
 use Rattle.ring.specs.declared.Ring.{Ring}
 use Rattle.ring.specs.Ring.{queue, oldestPacket, releaseOldest}
 use Rattle.ring.proofs.Laws.{release-some, sound-most, fits-release, queue-release, next-release}
 use Rattle.chip.specs.declared.Chip.{Chip}
 use Rattle.chip.specs.Mask.{in0bavirq, in2bavirq, in3bavirq, out1davirq, ep2inak, ep2disab, stlep2in, fnaddrBits, unusedOf}
-use Rattle.chip.specs.Record.{bytesOf}
+use Rattle.chip.specs.Record.{bytesOf, flagsOf}
 use Rattle.chip.specs.Set.{setEp0}
 use Rattle.chip.specs.Sound.{unusedRegisters}
 use Rattle.chip.proofs.Sound.{clean-set, clean-set-any}
@@ -31,7 +33,7 @@ use Rattle.rules.specs.In.{setInak, addressed, inOutcome, ep0Gone, in0Go
 use Rattle.rules.specs.In.{ep3Gone, in3Gone, in3Verdict, in3}
 use Rattle.rules.specs.Event.{inEvent}
 use Rattle.rules.specs.Ledger.{Ledger, noteIn, noteSent, senderAcknowledged, setSender}
-use Rattle.rules.proofs.Agree.{Agree, with-unused}
+use Rattle.rules.proofs.Agree.{Agree, with-unused, with-flags}
 use Rattle.rules.proofs.Irqs.{clean-epirq, agree-epirq, leaves-raised}
 use Rattle.rules.proofs.Events.{Kept, Left}
 
@@ -63,7 +65,9 @@ in-keeps l inak packet gone c arrives i j Status = cond-elim (Agree l) arrives (
 in0-gone : (l : Ledger) (c : Chip) → Agree l c → Agree l (in0Gone c)
 in0-gone l c i =
     agree-epirq l (setEp0 (ep0Gone (c .ep0)) c) (raised in0bavirq (c .registers .epirq))
-    (leaves-raised in0bavirq (c .registers .epirq) refl refl refl refl) i
+    (leaves-raised in0bavirq (c .registers .epirq) refl refl refl refl)
+    (with-flags i
+    (flags-set _ 1 _ (flags-set (flagsOf c) 0 0 (i .flags) (omega arith)) (flipped-flag (c .ep0 .intoggle))))
 
 in3-gone : (l : Ledger) (c : Chip) → Agree l c → Agree l (in3Gone c)
 in3-gone l c i =
@@ -75,6 +79,7 @@ in3-gone l c i =
       ep0 = i .ep0;
       ep3 = record { count = i .ep3 .count; writepos = i .ep3 .writepos; irq = has-or x in3bavirq in3bavirq };
       unused = clean-epirq c (raised in3bavirq x) (has-or x in3bavirq (unusedOf 11)) (i .unused);
+      flags = flags-set _ 7 _ (flags-set (flagsOf c) 6 0 (i .flags) (omega arith)) (flipped-flag (c .ep3 .toggle));
     }
 
 -- ---- endpoint 2: what is sent is the oldest waiting packet
@@ -104,6 +109,7 @@ in2-gone l c some i =
       ep0 = i .ep0;
       ep3 = rw (has-or x in2bavirq in3bavirq) (i .ep3);
       unused = clean-epirq c (raised in2bavirq x) (has-or x in2bavirq (unusedOf 11)) (i .unused);
+      flags = flags-set (flagsOf c) 5 _ (i .flags) (flipped-flag (c .ep2 .toggle));
     }
 
 -- with what the ledger notes of the reply, where the ACK arrives or not
@@ -119,7 +125,7 @@ in2-keeps : (l : Ledger) (c : Chip) (arrives : Bool) → Agree l c → Sent l ar
 in2-keeps l c arrives i =
     let none-noted : cond arrives l l ≡ l = cond-same arrives l in
     first-elim (λ (v : InVerdict). Sent l arrives
-    (inOutcome ep2inak (sent (c .ep2 .toggle) (oldestPacket 2 (c .ep2 .ring))) (in2Gone c) c arrives v))
+    (inOutcome ep2inak (sent (isOn (c .ep2 .toggle)) (oldestPacket 2 (c .ep2 .ring))) (in2Gone c) c arrives v))
     ((has (c .registers .clrtogs) ep2disab, Silent) ∷ (has (c .registers .epstalls) stlep2in, Stall) ∷
     (not (eqb (c .ep2 .ring .waiting) 0), Send) ∷ []) Nak
     ((λ _. rw none-noted i) ⨾ (λ _. rw none-noted i)

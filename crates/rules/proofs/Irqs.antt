@@ -37,6 +37,7 @@ agree-epirq l c y h i = record {
   ep0 = i .ep0;
   ep3 = rw (h .in3) (i .ep3);
   unused = clean-epirq c y (h .unused) (i .unused);
+  flags = i .flags;
 }
 
 -- ---- updates that leave those bits

@@ -121,6 +121,7 @@ starts =
       ep0 = clauses .ep0;
       ep3 = clauses .ep3;
       unused = clauses .unused;
+      flags = clauses .flags;
     }
 
 pub max3420e-lawful : Lawful (λ c. c) Agree max3420e max3420eLedger

@@ -9,14 +9,17 @@ use lib.ListN.{length}
 use borrow.Author.Tests.{leb-false, eqb-true, lt-ltb, not-false, not-true}
 use Rattle.bits.specs.Bit.{has, raised}
 use Rattle.bits.specs.First.{firstOf}
+use Rattle.bits.specs.Flag.{isOn, flipped}
 use Rattle.bits.proofs.Cases.{cond-elim}
 use Rattle.bits.proofs.First.{first-elim, first-each, Each, none, _⨾_}
+use Rattle.bits.proofs.Flag.{flags-set, flipped-flag}
 use Rattle.bits.proofs.Mask.{has-or}
 use Rattle.ring.specs.declared.Ring.{Ring}
 use Rattle.ring.specs.Ring.{queue, full}
 use Rattle.ring.proofs.Laws.{fits-fill, queue-fill}
 use Rattle.chip.specs.declared.Chip.{Chip}
 use Rattle.chip.specs.Mask.{in2bavirq, in3bavirq, out0davirq, out1davirq, ep1disab, stlep1out, unusedOf}
+use Rattle.chip.specs.Record.{flagsOf}
 use Rattle.chip.specs.Set.{setEp0, setEp1}
 use Rattle.model.specs.declared.Event.{Event}
 use Rattle.model.specs.Reply.{Outcome, outcome, Reply, silence, ack}
@@ -27,7 +30,7 @@ use Rattle.rules.specs.Seen.{heard}
 use Rattle.rules.specs.Out.{outOutcome, ep0Filled, out0Taken, out0Verdict, out0, ep1Filled, out1Taken, out1Verdict, out1}
 use Rattle.rules.specs.Event.{outEvent}
 use Rattle.rules.specs.Ledger.{Ledger, noteOut, isAck, receiverStored, setReceiver}
-use Rattle.rules.proofs.Agree.{Agree, with-ep0}
+use Rattle.rules.proofs.Agree.{Agree, with-ep0, with-flags}
 use Rattle.rules.proofs.Irqs.{clean-epirq, agree-epirq, leaves-raised}
 use Rattle.rules.proofs.Events.{Kept}
 
@@ -47,7 +50,9 @@ out0-keeps l c vs short i Status = i
 out0-keeps l c vs short i Store =
     agree-epirq l (setEp0 (ep0Filled (c .ep0) vs) c) (raised out0davirq (c .registers .epirq))
     (leaves-raised out0davirq (c .registers .epirq) refl refl refl refl)
+    (with-flags
     (with-ep0 i (record { count = short; readpos = omega arith; writepos = i .ep0 .writepos; setuppos = i .ep0 .setuppos }))
+    (flags-set (flagsOf c) 2 _ (i .flags) (flipped-flag (c .ep0 .outtoggle))))
 
 -- ---- endpoint 1
 
@@ -64,7 +69,7 @@ ep1-stores l c vs short room i =
         queued =
             ap (λ (q : List (List ℕ)). q ++ (vs ∷ [])) (s .queued) ∙ append-assoc (l .receiver .released) (queue 2 r) (vs ∷ [])
             ∙ ap (λ (q : List (List ℕ)). l .receiver .released ++ q) (sym (queue-fill 2 r (s .fits) room vs short));
-        toggled = ap not (s .toggled);
+        toggled = ap flipped (s .toggled);
         readpos = s .readpos;
         irq = has-or x out1davirq out1davirq ∙ sym (lt-ltb 0 (r .waiting + 1) (omega arith));
       };
@@ -72,6 +77,7 @@ ep1-stores l c vs short room i =
       ep0 = i .ep0;
       ep3 = rw (has-or x out1davirq in3bavirq) (i .ep3);
       unused = clean-epirq c (raised out1davirq x) (has-or x out1davirq (unusedOf 11)) (i .unused);
+      flags = flags-set (flagsOf c) 4 _ (i .flags) (flipped-flag (c .ep1 .toggle));
     }
 
 -- stored or dropped by the toggle, which ledger and record hold alike
@@ -80,18 +86,18 @@ out1-keeps : (l : Ledger) (c : Chip) (e : Event) (vs : List ℕ) → eqb (e .end
 out1-keeps l c e vs one short i =
     first-elim (λ (v : OutVerdict). Noted l e vs (outOutcome c (out1Taken c vs) v))
     ((has (c .registers .clrtogs) ep1disab, Silent) ∷ (has (c .registers .epstalls) stlep1out, Stall) ∷ (full 2 (c .ep1 .ring), Nak)
-    ∷ (not (Bool·beq (e .data1) (c .ep1 .toggle)), Drop) ∷ []) Store
+    ∷ (not (Bool·beq (e .data1) (isOn (c .ep1 .toggle))), Drop) ∷ []) Store
     ((λ _. rw one i) ⨾ (λ _. rw one i) ⨾ (λ _. rw one i) ⨾ dropped ⨾ none)
     (λ free. taken (leb-false 2 (c .ep1 .ring .waiting) (free 2)) (free 3))
   where
-    same : Bool·beq (e .data1) (l .receiver .toggle) ≡ Bool·beq (e .data1) (c .ep1 .toggle)
-    same = ap (Bool·beq (e .data1)) (i .receives .toggled)
+    same : Bool·beq (e .data1) (isOn (l .receiver .toggle)) ≡ Bool·beq (e .data1) (isOn (c .ep1 .toggle))
+    same = ap (λ (t : ℕ). Bool·beq (e .data1) (isOn t)) (i .receives .toggled)
 
-    dropped : not (Bool·beq (e .data1) (c .ep1 .toggle)) ≡ true → Noted l e vs (outcome c ack)
-    dropped other = rw (one, same ∙ not-true (Bool·beq (e .data1) (c .ep1 .toggle)) other) i
+    dropped : not (Bool·beq (e .data1) (isOn (c .ep1 .toggle))) ≡ true → Noted l e vs (outcome c ack)
+    dropped other = rw (one, same ∙ not-true (Bool·beq (e .data1) (isOn (c .ep1 .toggle))) other) i
 
-    taken : c .ep1 .ring .waiting < 2 → not (Bool·beq (e .data1) (c .ep1 .toggle)) ≡ false → Noted l e vs (outcome (out1Taken c vs) ack)
-    taken room held = rw (one, same ∙ not-false (Bool·beq (e .data1) (c .ep1 .toggle)) held) (ep1-stores l c vs short room i)
+    taken : c .ep1 .ring .waiting < 2 → not (Bool·beq (e .data1) (isOn (c .ep1 .toggle))) ≡ false → Noted l e vs (outcome (out1Taken c vs) ack)
+    taken room held = rw (one, same ∙ not-false (Bool·beq (e .data1) (isOn (c .ep1 .toggle))) held) (ep1-stores l c vs short room i)
 
 -- ---- the event
 

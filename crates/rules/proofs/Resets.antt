@@ -1,6 +1,5 @@
 -- A reset of the record and of the ledger keeps the agreement.
 use mathlib.Core.Path.{_≡_, refl, sym, ap, _∙_, subst}
-use mathlib.Core.Bool.{false}
 use mathlib.Core.List.{List}
 use Prim.Native.Nat.{ℕ, _*_, _≤_}
 use native.Mathlib.Omega.{arith}
@@ -35,9 +34,9 @@ fits-after : (k : Reset) (r : Ring) → Fits 2 r → Fits 2 (drained (withBytes 
 fits-after k r h = fits-drained r (bytesAfter k 128 (r .bytes)) (bytes-after-length k (r .bytes) (h .room))
 
 module _ (k : Reset) (l : Ledger) (c : Chip) (i : Agree l c) where
-  -- every clause of soundness holds after a reset
+  -- every clause of soundness holds after a reset; flags 8 and 9 are VBUS and the oscillator's
   clauses : Sound (chipAfter k c)
-  clauses = sound-clauses (chipAfter k c) (reset-sound k c)
+  clauses = sound-clauses (chipAfter k c) (reset-sound k c (i .flags .each 8) (i .flags .each 9))
 
   sends : SendsOf (ledgerAfter k l) (chipAfter k c)
   sends =
@@ -57,7 +56,7 @@ module _ (k : Reset) (l : Ledger) (c : Chip) (i : Agree l c) where
 
   receives : ReceivesOf (ledgerAfter k l) (chipAfter k c)
   receives =
-      subst (λ (r : Ring). Receives (ledgerAfter k l .receiver) r 0 false (has (chipAfter k c .registers .epirq) out1davirq))
+      subst (λ (r : Ring). Receives (ledgerAfter k l .receiver) r 0 0 (has (chipAfter k c .registers .epirq) out1davirq))
       (ring-after k (c .ep1 .ring))
       (record {
         fits = fits-after k (c .ep1 .ring) (i .receives .fits);
@@ -75,4 +74,5 @@ module _ (k : Reset) (l : Ledger) (c : Chip) (i : Agree l c) where
     ep0 = clauses .ep0;
     ep3 = clauses .ep3;
     unused = clauses .unused;
+    flags = clauses .flags;
   }

@@ -66,6 +66,7 @@ agrees c g s = record {
   ep0 = s .ep0;
   ep3 = s .ep3;
   unused = s .unused;
+  flags = s .flags;
 }
 
 -- what the type says of a function's parameter is its `.good`

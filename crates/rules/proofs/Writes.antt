@@ -1,6 +1,6 @@
 -- Each register's write rule and the ledger's keep the agreement: one lemma for each register that the agreement speaks of.
 use mathlib.Core.Path.{_≡_, refl, sym, ap, _∙_}
-use mathlib.Core.Bool.{Bool, false, cond, _&&_}
+use mathlib.Core.Bool.{Bool, false, cond}
 use mathlib.Core.List.{List, [], _∷_, _++_, append-assoc}
 use Prim.Native.Nat.{ℕ, _+_, _≤_, _<_}
 use native.Mathlib.Decide.{decLt}
@@ -10,17 +10,20 @@ use lib.Dec.{ltb, leb}
 use lib.ListN.{length, take, drop}
 use lib.Seq.{drop-append-seam}
 use borrow.Author.Tests.{leb-true, leb-false, ltb-false, lt-ltb, le-ltb}
-use Rattle.bits.specs.Bit.{lacks, has, lowered, stored, rises}
+use Rattle.bits.specs.Bit.{has, lowered, stored, rises}
+use Rattle.bits.specs.Flag.{isOn}
 use Rattle.bits.proofs.Cases.{cond-elim, cond-elim₂}
 use Rattle.bits.proofs.First.{holdsAt, unless-elim, unless-elim₂}
+use Rattle.bits.proofs.Flag.{flags-set, cleared-flag}
 use Rattle.bits.proofs.Mask.{has-and, has-and-none, has-stored-same, has-stored-other}
 use Rattle.ring.specs.declared.Ring.{Ring}
 use Rattle.ring.specs.Ring.{queue, full, nextBuffer, packet, oldestPacket, armNext, releaseOldest}
 use Rattle.ring.proofs.Laws.{release-none, queue-none, fits-store, queue-store, fits-arm, queue-arm, next-arm, fits-release, queue-release}
 use Rattle.chip.specs.declared.Chip.{Chip}
-use Rattle.chip.specs.Mask.{othersThan, countBits, epstallsBits, disableBits, ctgep1out, in0bavirq, in2bavirq, in3bavirq, out1davirq}
+use Rattle.chip.specs.Mask.{othersThan, countBits, epstallsBits, disableBits, ctgep1out, ctgep2in, ctgep3in, in0bavirq}
+use Rattle.chip.specs.Mask.{in2bavirq, in3bavirq, out1davirq}
 use Rattle.chip.specs.Mask.{clearedEpirqs, epienBits, usbctlBits, chipres, ie, unusedOf}
-use Rattle.chip.specs.Record.{bytesOf}
+use Rattle.chip.specs.Record.{bytesOf, flagsOf}
 use Rattle.chip.specs.Set.{setEp0, setEp2, setEp3, setEpirq, setUsbctl}
 use Rattle.chip.specs.Sound.{unusedRegisters}
 use Rattle.chip.proofs.Sound.{Clean, clean-set, clean-set-any}
@@ -28,14 +31,14 @@ use Rattle.reset.specs.declared.Reset.the-variants.{ChipReset}
 use Rattle.model.proofs.Keeps.{KeepsWrite}
 use Rattle.rules.specs.Write.{WriteRule, lowerEpirq, ep0Busy, ep0Stored, ep0Armed, ep2Stored, ep2Armed, in2bavCleared}
 use Rattle.rules.specs.Write.{ep3Stored, ep3Armed, ignored, writeEp0fifo, writeEp2infifo, writeEp3infifo, writeEp0bc}
-use Rattle.rules.specs.Write.{writeEp2inbc, writeEp3inbc, writeEpstalls, writeClrtogs, release, writeEpirq, writeEpien}
+use Rattle.rules.specs.Write.{writeEp2inbc, writeEp3inbc, writeEpstalls, toggleCleared, writeClrtogs, release, writeEpirq, writeEpien}
 use Rattle.rules.specs.Write.{writeUsbirq, writeUsbien, resetOnRise, writeUsbctl, writeCpuctl, writePinctl, writeIopins}
 use Rattle.rules.specs.Seen.{Connection, connectionOf}
 use Rattle.rules.specs.Ledger.{Ledger, LedgerWrite, unnotedWrite, waitingAt2, senderStored, senderArmed, noteEp2infifo}
 use Rattle.rules.specs.Ledger.{noteEp2inbc, noteClrtogs, oldestKept, receiverReleased, noteEpirq, noteRise, noteUsbctl}
 use Rattle.rules.specs.Ledger.{notedUsbctl, setSender, setReceiver}
 use Rattle.rules.proofs.Agree.{Sends, SendsOf, Agree, waiting-is, with-sends, with-receives, with-connection, with-ep0}
-use Rattle.rules.proofs.Agree.{with-ep3, with-unused}
+use Rattle.rules.proofs.Agree.{with-ep3, with-unused, with-flags}
 use Rattle.rules.proofs.Irqs.{clean-epirq, agree-epirq, leaves-in0, leaves-cleared}
 use Rattle.rules.proofs.Resets.{agree-reset}
 
@@ -77,16 +80,22 @@ keeps-iopins l c b _ i = with-unused i (clean-set-any (bytesOf (c .registers)) u
 -- R10: the ledger's toggle goes with endpoint 1's
 pub keeps-clrtogs : Kept writeClrtogs noteClrtogs
 keeps-clrtogs l c b _ i =
-    with-unused
+    let cleared : (m x : ℕ) → x ≤ 1 → toggleCleared m b x ≤ 1 = λ m x h. cleared-flag (has b m) x h in
+    let after1 = flags-set (flagsOf c) 4 _ (i .flags) (cleared ctgep1out (c .ep1 .toggle) (i .flags .each 4)) in
+    let after2 = flags-set _ 5 _ after1 (cleared ctgep2in (c .ep2 .toggle) (i .flags .each 5)) in
+    let after3 = flags-set _ 7 _ after2 (cleared ctgep3in (c .ep3 .toggle) (i .flags .each 7)) in
+    with-flags
+    (with-unused
     (with-receives i (record {
       fits = i .receives .fits;
       queued = i .receives .queued;
-      toggled = ap (λ (t : Bool). t && lacks b ctgep1out) (i .receives .toggled);
+      toggled = ap (toggleCleared ctgep1out b) (i .receives .toggled);
       readpos = i .receives .readpos;
       irq = i .receives .irq;
     }))
     (clean-set (bytesOf (c .registers)) unusedRegisters 1 (bitAnd b disableBits) (i .unused)
-    (has-and-none b disableBits (unusedOf 10) refl))
+    (has-and-none b disableBits (unusedOf 10) refl)))
+    after3
 
 -- ---- endpoint 0
 
@@ -100,7 +109,9 @@ keeps-ep0fifo l c b _ i =
 ep0-arms : (l : Ledger) (c : Chip) (n : ℕ) → n ≤ 64 → Agree l c → Agree l (lowerEpirq in0bavirq (setEp0 (ep0Armed (c .ep0) n) c))
 ep0-arms l c n small i =
     agree-epirq l (setEp0 (ep0Armed (c .ep0) n) c) (lowered in0bavirq (c .registers .epirq)) (leaves-in0 (c .registers .epirq))
+    (with-flags
     (with-ep0 i (record { count = small; readpos = i .ep0 .readpos; writepos = omega arith; setuppos = i .ep0 .setuppos }))
+    (flags-set (flagsOf c) 0 1 (i .flags) (omega arith)))
 
 pub keeps-ep0bc : Kept writeEp0bc unnotedWrite
 keeps-ep0bc l c b _ i =
@@ -111,7 +122,7 @@ keeps-ep0bc l c b _ i =
 
 pub keeps-ep3fifo : Kept writeEp3infifo unnotedWrite
 keeps-ep3fifo l c b _ i =
-    unless-elim (Agree l) (leb 64 (c .ep3 .writepos) ∷ c .ep3 .armed ∷ []) i
+    unless-elim (Agree l) (leb 64 (c .ep3 .writepos) ∷ isOn (c .ep3 .armed) ∷ []) i
     (λ free.
     let below : c .ep3 .writepos < 64 = leb-false 64 (c .ep3 .writepos) (free 0) in
     with-ep3 i (record { count = i .ep3 .count; writepos = omega arith; irq = i .ep3 .irq }))
@@ -128,11 +139,12 @@ ep3-arms l c n small i =
       ep0 = i .ep0;
       ep3 = record { count = small; writepos = omega arith; irq = has-and-none x m in3bavirq refl };
       unused = clean-epirq c (lowered in3bavirq x) (has-and x m (unusedOf 11)) (i .unused);
+      flags = flags-set (flagsOf c) 6 1 (i .flags) (omega arith);
     }
 
 pub keeps-ep3bc : Kept writeEp3inbc unnotedWrite
 keeps-ep3bc l c n _ i =
-    unless-elim (Agree l) (ltb 64 n ∷ c .ep3 .armed ∷ []) i (λ free. ep3-arms l c n (ltb-false 64 n (free 0)) i)
+    unless-elim (Agree l) (ltb 64 n ∷ isOn (c .ep3 .armed) ∷ []) i (λ free. ep3-arms l c n (ltb-false 64 n (free 0)) i)
 
 -- ---- endpoint 2
 
@@ -200,6 +212,7 @@ agree-arms l c n small room i =
       ep0 = i .ep0;
       ep3 = rw (has-and x m in3bavirq) (i .ep3);
       unused = clean-epirq c (lowered in2bavirq x) (has-and x m (unusedOf 11)) (i .unused);
+      flags = i .flags;
     })
     (λ one. with-sends i (ep2-arms l c n _ small room (i .sends .irq ∙ lt-ltb w 2 room ∙ sym (lt-ltb (w + 1) 2 (leb-false 2 (w + 1) one)))
     (i .sends)))
@@ -250,6 +263,7 @@ agree-release l c i =
       ep0 = i .ep0;
       ep3 = rw (has-stored-other out1davirq more x in3bavirq refl refl) (i .ep3);
       unused = clean-epirq c (stored out1davirq more x) (has-stored-other out1davirq more x (unusedOf 11) refl refl) (i .unused);
+      flags = i .flags;
     }
 
 pub keeps-epirq : Kept writeEpirq noteEpirq

@@ -1,6 +1,6 @@
 -- Control transfers: SETUP, and the stage that an OUT or an IN at endpoint 0 belongs to (document 01, "The bus side"; 000 pages 64,
 -- 66, 67).
-use mathlib.Core.Bool.{Bool, true, false, not, _&&_}
+use mathlib.Core.Bool.{Bool, not, _&&_}
 use mathlib.Core.List.{List}
 use Prim.Native.Nat.{ℕ, _+_, _*_}
 use lib.Dec.{eqb}
@@ -19,13 +19,13 @@ ep0Setup e vs = record {
   bytes = e .bytes;
   setup = vs;
   count = e .count;
-  armed = false;
+  armed = 0;
   readpos = 0;
   writepos = 0;
   setuppos = 0;
-  intoggle = true;
-  outtoggle = true;
-  current = true;
+  intoggle = 1;
+  outtoggle = 1;
+  current = 1;
 }
 
 -- SUDAVIRQ=1, IN0BAVIRQ=1 and OUT0DAVIRQ=0; ACKSTAT, STLSTAT, STLEP0IN and STLEP0OUT 0 (000 pages 1, 59, 60, 64)

@@ -1,5 +1,5 @@
 -- The twelve events, by their codes, and the MAX3420E as a model (document 01, "The bus side").
-use mathlib.Core.Bool.{Bool, true, false, cond, _&&_}
+use mathlib.Core.Bool.{Bool, false, cond, _&&_}
 use mathlib.Core.List.{List, [], _∷_}
 use Prim.Native.Nat.{ℕ, _*_}
 use lib.Bits.{bitAnd}
@@ -7,6 +7,7 @@ use lib.Dec.{eqb}
 use lib.ListN.{getD}
 use Rattle.bits.specs.Bit.{has, raised, masked}
 use Rattle.bits.specs.First.{firstOf}
+use Rattle.bits.specs.Flag.{isOn}
 use Rattle.chip.specs.declared.Chip.{Chip}
 use Rattle.chip.specs.Mask.{chipres, oscokirq, vbusirq, novbusirq, uresdnirq, suspirq, busactirq, outputBits}
 use Rattle.chip.specs.Record.{powerOnChip}
@@ -46,14 +47,14 @@ powerOnEvent = signal (λ c e. chipAfter PowerOn c)
 
 -- 2: oscillator stable (000 page 49, decision 8); sets the flag and OSCOKIRQ, nothing if CHIPRES=1 (page 4, decision 4)
 abbrev pub stableEvent : EventRule
-stableEvent = signal (λ c e. cond (has (c .registers .usbctl) chipres) c (raiseUsbirq oscokirq (setPower (withOscok true (c .power)) c)))
+stableEvent = signal (λ c e. cond (has (c .registers .usbctl) chipres) c (raiseUsbirq oscokirq (setPower (withOscok 1 (c .power)) c)))
 
 -- 3, 4: VBUS on, off; VBUSIRQ or NOVBUSIRQ on a change only (000 pages 75, 47)
 abbrev pub vbusOnEvent : EventRule
-vbusOnEvent = signal (λ c e. cond (c .power .vbus) c (raiseUsbirq vbusirq (setPower (withVbus true (c .power)) c)))
+vbusOnEvent = signal (λ c e. cond (isOn (c .power .vbus)) c (raiseUsbirq vbusirq (setPower (withVbus 1 (c .power)) c)))
 
 abbrev pub vbusOffEvent : EventRule
-vbusOffEvent = signal (λ c e. cond (c .power .vbus) (raiseUsbirq novbusirq (setPower (withVbus false (c .power)) c)) c)
+vbusOffEvent = signal (λ c e. cond (isOn (c .power .vbus)) (raiseUsbirq novbusirq (setPower (withVbus 0 (c .power)) c)) c)
 
 -- 5: input pins (low four bits), bits 7..4 of R20 (000 pages 27 to 30)
 abbrev pub pinsEvent : EventRule

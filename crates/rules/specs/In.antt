@@ -8,6 +8,7 @@ use lib.Dec.{eqb}
 use lib.ListN.{take}
 use Rattle.bits.specs.Bit.{has, raised}
 use Rattle.bits.specs.First.{firstOf}
+use Rattle.bits.specs.Flag.{isOn, flipped}
 use Rattle.ring.specs.Ring.{releaseOldest, oldestPacket}
 use Rattle.chip.specs.declared.Endpoint0.{Endpoint0}
 use Rattle.chip.specs.declared.Endpoint2.{Endpoint2}
@@ -51,7 +52,7 @@ in0Data c armed = firstOf ((has (c .registers .epstalls) stlep0in, Stall) ∷ (a
 
 -- with no SETUP current: STALL if STLEP0IN is set, else NAK (decision 19)
 abbrev pub in0Verdict : Chip → InVerdict
-in0Verdict c = firstOf ((not (c .ep0 .current), in0Data c false) ∷ (reading c, in0Data c (c .ep0 .armed)) ∷ []) (in0Status c)
+in0Verdict c = firstOf ((not (isOn (c .ep0 .current)), in0Data c false) ∷ (reading c, in0Data c (isOn (c .ep0 .armed))) ∷ []) (in0Status c)
 
 -- the packet leaves, the toggle flips
 abbrev pub ep0Gone : Endpoint0 → Endpoint0
@@ -59,11 +60,11 @@ ep0Gone e = record {
   bytes = e .bytes;
   setup = e .setup;
   count = e .count;
-  armed = false;
+  armed = 0;
   readpos = e .readpos;
   writepos = e .writepos;
   setuppos = e .setuppos;
-  intoggle = not (e .intoggle);
+  intoggle = flipped (e .intoggle);
   outtoggle = e .outtoggle;
   current = e .current;
 }
@@ -74,7 +75,7 @@ in0Gone c = raiseEpirq in0bavirq (setEp0 (ep0Gone (c .ep0)) c)
 
 abbrev pub in0 : Chip → Bool → Outcome Chip Reply
 in0 c acknowledged =
-    inOutcome ep0inak (sent (c .ep0 .intoggle) (take (c .ep0 .count) (c .ep0 .bytes))) (in0Gone c) c acknowledged (in0Verdict c)
+    inOutcome ep0inak (sent (isOn (c .ep0 .intoggle)) (take (c .ep0 .count) (c .ep0 .bytes))) (in0Gone c) c acknowledged (in0Verdict c)
 
 -- ---- endpoints 2 and 3
 
@@ -87,25 +88,25 @@ in2Verdict c = inVerdict (has (c .registers .clrtogs) ep2disab) (has (c .registe
     (not (eqb (c .ep2 .ring .waiting) 0))
 
 abbrev pub ep2Gone : Endpoint2 → Endpoint2
-ep2Gone e = record { ring = releaseOldest 2 (e .ring); count = e .count; writepos = e .writepos; toggle = not (e .toggle) }
+ep2Gone e = record { ring = releaseOldest 2 (e .ring); count = e .count; writepos = e .writepos; toggle = flipped (e .toggle) }
 
 -- IN2BAVIRQ becomes 1 (000 page 42)
 abbrev pub in2Gone : Chip → Chip
 in2Gone c = raiseEpirq in2bavirq (setEp2 (ep2Gone (c .ep2)) c)
 
 abbrev pub in2 : Chip → Bool → Outcome Chip Reply
-in2 c acknowledged = inOutcome ep2inak (sent (c .ep2 .toggle) (oldestPacket 2 (c .ep2 .ring))) (in2Gone c) c acknowledged (in2Verdict c)
+in2 c acknowledged = inOutcome ep2inak (sent (isOn (c .ep2 .toggle)) (oldestPacket 2 (c .ep2 .ring))) (in2Gone c) c acknowledged (in2Verdict c)
 
 abbrev pub in3Verdict : Chip → InVerdict
-in3Verdict c = inVerdict (has (c .registers .clrtogs) ep3disab) (has (c .registers .epstalls) stlep3in) (c .ep3 .armed)
+in3Verdict c = inVerdict (has (c .registers .clrtogs) ep3disab) (has (c .registers .epstalls) stlep3in) (isOn (c .ep3 .armed))
 
 abbrev pub ep3Gone : Endpoint3 → Endpoint3
-ep3Gone e = record { bytes = e .bytes; count = e .count; armed = false; writepos = e .writepos; toggle = not (e .toggle) }
+ep3Gone e = record { bytes = e .bytes; count = e .count; armed = 0; writepos = e .writepos; toggle = flipped (e .toggle) }
 
 -- IN3BAVIRQ becomes 1 (000 page 44)
 abbrev pub in3Gone : Chip → Chip
 in3Gone c = raiseEpirq in3bavirq (setEp3 (ep3Gone (c .ep3)) c)
 
 abbrev pub in3 : Chip → Bool → Outcome Chip Reply
-in3 c acknowledged = inOutcome ep3inak (sent (c .ep3 .toggle) (take (c .ep3 .count) (c .ep3 .bytes))) (in3Gone c) c acknowledged
+in3 c acknowledged = inOutcome ep3inak (sent (isOn (c .ep3 .toggle)) (take (c .ep3 .count) (c .ep3 .bytes))) (in3Gone c) c acknowledged
     (in3Verdict c)

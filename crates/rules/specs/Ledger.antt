@@ -1,12 +1,13 @@
 -- The ledger (document 01's book): what was armed, acknowledged, stored and released, read off the calls and their answers alone.
 -- Its rules are those of "The book of demand 3"; as a book it never sees a record.
-use mathlib.Core.Bool.{Bool, true, false, not, cond, _&&_, Bool·beq}
+use mathlib.Core.Bool.{Bool, true, false, cond, _&&_, Bool·beq}
 use mathlib.Core.List.{List, [], _∷_, _++_}
 use Prim.Native.Nat.{ℕ, _+_, _-_, _*_, _%_}
 use lib.Bits.{bitAnd}
 use lib.Dec.{eqb, leb}
 use lib.ListN.{length, getD, set, take, drop, replicate}
-use Rattle.bits.specs.Bit.{lacks, has, rises}
+use Rattle.bits.specs.Bit.{has, rises}
+use Rattle.bits.specs.Flag.{isOn, flipped}
 use Rattle.ring.specs.Ring.{packet}
 use Rattle.chip.specs.declared.Power.{Power}
 use Rattle.chip.specs.Mask.{ctgep1out, out1davirq, usbctlBits, chipres}
@@ -18,7 +19,7 @@ use Rattle.reset.specs.Reset.{bytesAfter, powerAfter}
 use Rattle.model.specs.declared.Event.{Event}
 use Rattle.model.specs.Reply.{Reply, transferred, done, silence, ack, nak, stall, sent}
 use Rattle.model.specs.Book.{Book}
-use Rattle.rules.specs.Write.{storeFifo, armBuffer}
+use Rattle.rules.specs.Write.{storeFifo, armBuffer, toggleCleared}
 use Rattle.rules.specs.Spi.{stepRegister}
 use Rattle.rules.specs.Seen.{Connection, seen}
 
@@ -34,7 +35,7 @@ pub record Sender : Type 0 where
 pub record Receiver : Type 0 where
   pub stored : List (List ℕ)
   pub released : List (List ℕ)
-  pub toggle : Bool
+  pub toggle : ℕ
 
 -- and R15, VBUS and oscillator flag
 pub record Ledger : Type 0 where
@@ -61,8 +62,8 @@ notedPower x l = setConnection (record { usbctl = l .connection .usbctl; power =
 abbrev pub blank : Ledger
 blank = record {
   sender = record { armed = []; acknowledged = []; bytes = replicate 128 0; turn = 0; writepos = 0 };
-  receiver = record { stored = []; released = []; toggle = false };
-  connection = record { usbctl = 0; power = record { vbus = false; oscok = false } };
+  receiver = record { stored = []; released = []; toggle = 0 };
+  connection = record { usbctl = 0; power = record { vbus = 0; oscok = 0 } };
 }
 
 -- armed less acknowledged is how many wait at endpoint 2
@@ -77,7 +78,7 @@ connectionAfter k l = record { usbctl = registerAfter k 15 (l .usbctl); power = 
 abbrev pub ledgerAfter : Reset → Ledger → Ledger
 ledgerAfter k l = record {
   sender = record { armed = []; acknowledged = []; bytes = bytesAfter k 128 (l .sender .bytes); turn = 0; writepos = 0 };
-  receiver = record { stored = []; released = []; toggle = false };
+  receiver = record { stored = []; released = []; toggle = 0 };
   connection = connectionAfter k (l .connection);
 }
 
@@ -121,8 +122,7 @@ noteClrtogs l b =
     setReceiver (record {
       stored = l .receiver .stored;
       released = l .receiver .released;
-      toggle =
-          l .receiver .toggle && lacks b ctgep1out;
+      toggle = toggleCleared ctgep1out b (l .receiver .toggle);
     }) l
 
 -- R11: a 1 in OUT1DAVIRQ adds the oldest stored packet not released, if any, to released
@@ -160,10 +160,10 @@ abbrev pub notePowerOn : LedgerEvent
 notePowerOn l e vs a = ledgerAfter PowerOn l
 
 abbrev pub noteStable : LedgerEvent
-noteStable l e vs a = cond (has (l .connection .usbctl) chipres) l (notedPower (withOscok true (l .connection .power)) l)
+noteStable l e vs a = cond (has (l .connection .usbctl) chipres) l (notedPower (withOscok 1 (l .connection .power)) l)
 
-abbrev pub noteVbus : Bool → LedgerEvent
-noteVbus b l e vs a = notedPower (withVbus b (l .connection .power)) l
+abbrev pub noteVbus : ℕ → LedgerEvent
+noteVbus x l e vs a = notedPower (withVbus x (l .connection .power)) l
 
 -- a seen bus reset start
 abbrev pub noteResetStart : LedgerEvent
@@ -171,7 +171,7 @@ noteResetStart l e vs a = cond (seen (l .connection)) (ledgerAfter BusReset l) l
 
 -- OUT at endpoint 1 with the toggle held, answered ACK: its payload joins stored, the toggle flips
 abbrev pub receiverStored : Receiver → List ℕ → Receiver
-receiverStored r vs = record { stored = r .stored ++ (vs ∷ []); released = r .released; toggle = not (r .toggle) }
+receiverStored r vs = record { stored = r .stored ++ (vs ∷ []); released = r .released; toggle = flipped (r .toggle) }
 
 abbrev pub isAck : Reply → Bool
 isAck (transferred vs) = false
@@ -184,7 +184,7 @@ isAck (sent t vs) = false
 
 abbrev pub noteOut : LedgerEvent
 noteOut l e vs a =
-    cond ((eqb (e .endpoint) 1 && isAck a) && Bool·beq (e .data1) (l .receiver .toggle)) (setReceiver (receiverStored (l .receiver) vs) l) l
+    cond ((eqb (e .endpoint) 1 && isAck a) && Bool·beq (e .data1) (isOn (l .receiver .toggle))) (setReceiver (receiverStored (l .receiver) vs) l) l
 
 -- IN at endpoint 2 answered with data, its ACK arriving: the reply's bytes join acknowledged
 abbrev pub senderAcknowledged : Sender → List ℕ → Sender
@@ -205,7 +205,7 @@ noteIn l e vs a = cond (eqb (e .endpoint) 2 && e .acknowledged) (noteSent l a) l
 
 abbrev pub ledgerEvents : List LedgerEvent
 ledgerEvents =
-    unnotedEvent ∷ notePowerOn ∷ noteStable ∷ noteVbus true ∷ noteVbus false ∷ unnotedEvent ∷ noteResetStart ∷ unnotedEvent ∷
+    unnotedEvent ∷ notePowerOn ∷ noteStable ∷ noteVbus 1 ∷ noteVbus 0 ∷ unnotedEvent ∷ noteResetStart ∷ unnotedEvent ∷
     unnotedEvent ∷ unnotedEvent ∷ unnotedEvent ∷ noteOut ∷ noteIn ∷ []
 
 -- ---- how it reads the calls of the MAX3420E

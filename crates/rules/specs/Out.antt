@@ -8,6 +8,7 @@ use lib.ListN.{length}
 use lib.Seq.{sets}
 use Rattle.bits.specs.Bit.{has}
 use Rattle.bits.specs.First.{firstOf}
+use Rattle.bits.specs.Flag.{isOn, flipped}
 use Rattle.ring.specs.Ring.{full, fillNext}
 use Rattle.chip.specs.declared.Endpoint0.{Endpoint0}
 use Rattle.chip.specs.declared.Endpoint1.{Endpoint1}
@@ -43,14 +44,14 @@ abbrev pub out0Data : Chip → Bool → OutVerdict
 out0Data c data1 =
     firstOf
     ((has (c .registers .epstalls) stlep0out, Stall) ∷ (eqb (wLength c) 0, Stall) ∷ (ep0Busy c, Nak)
-    ∷ (not (Bool·beq data1 (c .ep0 .outtoggle)), Drop) ∷ []) Store
+    ∷ (not (Bool·beq data1 (isOn (c .ep0 .outtoggle))), Drop) ∷ []) Store
 
 -- with no SETUP current: STALL if STLEP0OUT is set, else NAK (decision 19)
 abbrev pub out0Idle : Chip → OutVerdict
 out0Idle c = firstOf ((has (c .registers .epstalls) stlep0out, Stall) ∷ []) Nak
 
 abbrev pub out0Verdict : Chip → Bool → ℕ → OutVerdict
-out0Verdict c data1 n = firstOf ((not (c .ep0 .current), out0Idle c) ∷ (reading c, out0Status c n) ∷ []) (out0Data c data1)
+out0Verdict c data1 n = firstOf ((not (isOn (c .ep0 .current)), out0Idle c) ∷ (reading c, out0Status c n) ∷ []) (out0Data c data1)
 
 -- stored at the buffer's start (the rest stays), the toggle flips; the read position becomes 0 and the write position stays
 abbrev pub ep0Filled : Endpoint0 → List ℕ → Endpoint0
@@ -63,7 +64,7 @@ ep0Filled e vs = record {
   writepos = e .writepos;
   setuppos = e .setuppos;
   intoggle = e .intoggle;
-  outtoggle = not (e .outtoggle);
+  outtoggle = flipped (e .outtoggle);
   current = e .current;
 }
 
@@ -81,11 +82,11 @@ abbrev pub out1Verdict : Chip → Bool → OutVerdict
 out1Verdict c data1 =
     firstOf
     ((has (c .registers .clrtogs) ep1disab, Silent) ∷ (has (c .registers .epstalls) stlep1out, Stall) ∷ (full 2 (c .ep1 .ring), Nak)
-    ∷ (not (Bool·beq data1 (c .ep1 .toggle)), Drop) ∷ []) Store
+    ∷ (not (Bool·beq data1 (isOn (c .ep1 .toggle))), Drop) ∷ []) Store
 
 -- stored in the next buffer, the toggle flips
 abbrev pub ep1Filled : Endpoint1 → List ℕ → Endpoint1
-ep1Filled e vs = record { ring = fillNext 2 (e .ring) vs; readpos = e .readpos; toggle = not (e .toggle) }
+ep1Filled e vs = record { ring = fillNext 2 (e .ring) vs; readpos = e .readpos; toggle = flipped (e .toggle) }
 
 -- OUT1DAVIRQ is set (000 page 53)
 abbrev pub out1Taken : Chip → List ℕ → Chip

@@ -1,12 +1,13 @@
 -- What a byte written to each register does (document 01, "Writes"), and the table of these rules, R0 first.
-use mathlib.Core.Bool.{Bool, true, cond, _&&_, _||_}
+use mathlib.Core.Bool.{Bool, cond, _||_}
 use mathlib.Core.List.{List, [], _∷_}
 use Prim.Native.Nat.{ℕ, _+_}
 use lib.Bits.{bitAnd}
 use lib.Dec.{ltb, leb}
 use lib.ListN.{set}
-use Rattle.bits.specs.Bit.{lacks, has, raised, lowered, stored, masked, rises}
+use Rattle.bits.specs.Bit.{has, raised, lowered, stored, masked, rises}
 use Rattle.bits.specs.First.{unless}
+use Rattle.bits.specs.Flag.{isOn}
 use Rattle.ring.specs.Ring.{full, storeByte, armNext, releaseOldest}
 use Rattle.chip.specs.declared.Endpoint0.{Endpoint0}
 use Rattle.chip.specs.declared.Endpoint1.{Endpoint1}
@@ -38,7 +39,7 @@ storeFifo position chips c stored = unless (leb 64 position ∷ chips ∷ []) c 
 
 -- endpoint 0's buffer is the chip's while it is armed or OUT0DAVIRQ=1
 abbrev pub ep0Busy : Chip → Bool
-ep0Busy c = c .ep0 .armed || has (c .registers .epirq) out0davirq
+ep0Busy c = isOn (c .ep0 .armed) || has (c .registers .epirq) out0davirq
 
 abbrev pub ep0Stored : Endpoint0 → ℕ → Endpoint0
 ep0Stored e b = record {
@@ -77,7 +78,7 @@ ep3Stored e b = record {
 
 -- R3, EP3INFIFO (000 page 22): the chip's while it is armed (h)
 abbrev pub writeEp3infifo : WriteRule
-writeEp3infifo c b = storeFifo (c .ep3 .writepos) (c .ep3 .armed) c (setEp3 (ep3Stored (c .ep3) b) c)
+writeEp3infifo c b = storeFifo (c .ep3 .writepos) (isOn (c .ep3 .armed)) c (setEp3 (ep3Stored (c .ep3) b) c)
 
 -- ---- R5, R7, R8: a count over 64, or a buffer that is the chip's, is ignored (h); else the first n bytes, as the buffer stands, are
 -- ---- armed, the write position becomes 0, and the matching BAV bit clears
@@ -90,7 +91,7 @@ ep0Armed e n = record {
   bytes = e .bytes;
   setup = e .setup;
   count = n;
-  armed = true;
+  armed = 1;
   readpos = e .readpos;
   writepos = 0;
   setuppos = e .setuppos;
@@ -118,11 +119,11 @@ abbrev pub writeEp2inbc : WriteRule
 writeEp2inbc c n = armBuffer n (full 2 (c .ep2 .ring)) c (in2bavCleared (setEp2 (ep2Armed (c .ep2) n) c))
 
 abbrev pub ep3Armed : Endpoint3 → ℕ → Endpoint3
-ep3Armed e n = record { bytes = e .bytes; count = n; armed = true; writepos = 0; toggle = e .toggle }
+ep3Armed e n = record { bytes = e .bytes; count = n; armed = 1; writepos = 0; toggle = e .toggle }
 
 -- R8, EP3INBC (000 pages 21, 44)
 abbrev pub writeEp3inbc : WriteRule
-writeEp3inbc c n = armBuffer n (c .ep3 .armed) c (lowerEpirq in3bavirq (setEp3 (ep3Armed (c .ep3) n) c))
+writeEp3inbc c n = armBuffer n (isOn (c .ep3 .armed)) c (lowerEpirq in3bavirq (setEp3 (ep3Armed (c .ep3) n) c))
 
 -- ---- control registers
 
@@ -134,22 +135,26 @@ ignored c b = c
 abbrev pub writeEpstalls : WriteRule
 writeEpstalls c b = setEpstalls (bitAnd b epstallsBits) c
 
-abbrev pub ep1Toggled : Bool → Endpoint1 → Endpoint1
+abbrev pub ep1Toggled : ℕ → Endpoint1 → Endpoint1
 ep1Toggled t e = record { ring = e .ring; readpos = e .readpos; toggle = t }
 
-abbrev pub ep2Toggled : Bool → Endpoint2 → Endpoint2
+abbrev pub ep2Toggled : ℕ → Endpoint2 → Endpoint2
 ep2Toggled t e = record { ring = e .ring; count = e .count; writepos = e .writepos; toggle = t }
 
-abbrev pub ep3Toggled : Bool → Endpoint3 → Endpoint3
+abbrev pub ep3Toggled : ℕ → Endpoint3 → Endpoint3
 ep3Toggled t e = record { bytes = e .bytes; count = e .count; armed = e .armed; writepos = e .writepos; toggle = t }
+
+-- a toggle that a 1 in its bit of R10 sets to DATA0
+abbrev pub toggleCleared : ℕ → ℕ → ℕ → ℕ
+toggleCleared m b t = cond (has b m) 0 t
 
 -- R10, CLRTOGS: bits 7..5 stored (000 pages 12, 15, 19); a 1 in bits 4, 3, 2 sets that toggle to DATA0 and reads back 0 (6 to 8)
 abbrev pub writeClrtogs : WriteRule
 writeClrtogs c b =
     setClrtogs (bitAnd b disableBits)
-    (setEp1 (ep1Toggled (c .ep1 .toggle && lacks b ctgep1out) (c .ep1))
-    (setEp2 (ep2Toggled (c .ep2 .toggle && lacks b ctgep2in) (c .ep2))
-    (setEp3 (ep3Toggled (c .ep3 .toggle && lacks b ctgep3in) (c .ep3)) c)))
+    (setEp1 (ep1Toggled (toggleCleared ctgep1out b (c .ep1 .toggle)) (c .ep1))
+    (setEp2 (ep2Toggled (toggleCleared ctgep2in b (c .ep2 .toggle)) (c .ep2))
+    (setEp3 (ep3Toggled (toggleCleared ctgep3in b (c .ep3 .toggle)) (c .ep3)) c)))
 
 -- the older waiting packet of endpoint 1, if any, is released, and R1's read position becomes 0 (decision 37)
 abbrev pub ep1Released : Endpoint1 → Endpoint1
