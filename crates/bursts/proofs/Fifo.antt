@@ -11,6 +11,7 @@ use lib.ListN.{length, getD, set, take, List·getD-eq-default}
 use lib.Seq.{getD-take, length-take-le}
 use borrow.Author.Tests.{le-leb, lt-ltb, le-ltb}
 use Rattle.bits.specs.Bit.{has}
+use Rattle.bits.specs.Flag.{isOn}
 use Rattle.bits.proofs.Cases.{cond-same, cond-map}
 use Rattle.ring.specs.Ring.{full, nextBuffer, oldestCount, oldestPacket, withBytes}
 use Rattle.chip.specs.declared.Endpoint0.{Endpoint0}
@@ -89,11 +90,11 @@ ep0Filled e c s =
 
 pub written-ep0 : (c : Chip) (e : Endpoint0) (dav : Bool) (bytes reply out : List ℕ) (after : Filling)
     → has (c .registers .epirq) out0davirq ≡ dav
-    → Burst (fillingSpi 0 (limitOf (e .armed || dav))) (filling (e .bytes) (e .writepos)) after true 0 bytes reply out
+    → Burst (fillingSpi 0 (limitOf (isOn (e .armed) || dav))) (filling (e .bytes) (e .writepos)) after true 0 bytes reply out
     → Burst max3420eSpi (setEp0 e c) (ep0Filled e c after) true 0 bytes reply out
 written-ep0 c e dav bytes reply out after same =
-    put-back max3420eSpi (fillTo 0 (limitOf (e .armed || dav))) (λ s. outcome s 0) (ep0Filled e c) true 0 refl
-    (λ s b. rw same (stores-first (ep0Filled e c) (e .armed || dav) s b)) (λ s. refl) bytes reply out
+    put-back max3420eSpi (fillTo 0 (limitOf (isOn (e .armed) || dav))) (λ s. outcome s 0) (ep0Filled e c) true 0 refl
+    (λ s b. rw same (stores-first (ep0Filled e c) (isOn (e .armed) || dav) s b)) (λ s. refl) bytes reply out
     (filling (e .bytes) (e .writepos)) after
 
 abbrev ep3Filled : Endpoint3 → Chip → Filling → Chip
@@ -101,11 +102,11 @@ ep3Filled e c s =
     setEp3 (record { bytes = s .bytes; count = e .count; armed = e .armed; writepos = s .position; toggle = e .toggle }) c
 
 pub written-ep3 : (c : Chip) (e : Endpoint3) (bytes reply out : List ℕ) (after : Filling)
-    → Burst (fillingSpi 0 (limitOf (e .armed))) (filling (e .bytes) (e .writepos)) after true 0 bytes reply out
+    → Burst (fillingSpi 0 (limitOf (isOn (e .armed)))) (filling (e .bytes) (e .writepos)) after true 0 bytes reply out
     → Burst max3420eSpi (setEp3 e c) (ep3Filled e c after) true 3 bytes reply out
 written-ep3 c e bytes reply out after =
-    put-back max3420eSpi (fillTo 0 (limitOf (e .armed))) (λ s. outcome s 0) (ep3Filled e c) true 3 refl
-    (stores-first (ep3Filled e c) (e .armed)) (λ s. refl) bytes reply out (filling (e .bytes) (e .writepos)) after
+    put-back max3420eSpi (fillTo 0 (limitOf (isOn (e .armed)))) (λ s. outcome s 0) (ep3Filled e c) true 3 refl
+    (stores-first (ep3Filled e c) (isOn (e .armed))) (λ s. refl) bytes reply out (filling (e .bytes) (e .writepos)) after
 
 -- a register whose read gives a byte of a packet and moves on within it
 read-back : (n : ℕ) → stepRegister n ≡ n → (put : ℕ → Chip) (packet : List ℕ) (byte : ℕ → ℕ)

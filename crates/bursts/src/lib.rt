@@ -68,7 +68,7 @@ pub fn write_ep0(mut endpoint: Endpoint0, dav: bool, bytes: &[u8], reply: &mut [
         → Burst max3420eSpi (setEp0 endpoint c) (setEp0 r c) true 0 (now (bytes .entry)) (now (reply .entry)) (now (reply .exit))) ⌝ }
 {
     let mut buffer = endpoint.bytes;
-    let limit = limit_of(endpoint.armed | dav);
+    let limit = limit_of((endpoint.armed == 1) | dav);
     let position = store_all(&mut buffer, 0, limit, endpoint.writepos, bytes, reply);
     endpoint.bytes = buffer;
     endpoint.writepos = position;
@@ -99,7 +99,7 @@ pub fn write_ep3(mut endpoint: Endpoint3, bytes: &[u8], reply: &mut [u8]) -> End
         → Burst max3420eSpi (setEp3 endpoint c) (setEp3 r c) true 3 (now (bytes .entry)) (now (reply .entry)) (now (reply .exit))) ⌝ }
 {
     let mut buffer = endpoint.bytes;
-    let limit = limit_of(endpoint.armed);
+    let limit = limit_of(endpoint.armed == 1);
     let position = store_all(&mut buffer, 0, limit, endpoint.writepos, bytes, reply);
     endpoint.bytes = buffer;
     endpoint.writepos = position;

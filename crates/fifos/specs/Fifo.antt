@@ -4,6 +4,7 @@ use mathlib.Core.Bool.{Bool, cond}
 use Prim.Native.Nat.{ℕ, _+_}
 use lib.Dec.{ltb}
 use lib.ListN.{getD}
+use Rattle.bits.specs.Flag.{isOn}
 use Rattle.ring.specs.Ring.{full, oldestCount, oldestPacket}
 use Rattle.chip.specs.declared.Endpoint0.{Endpoint0}
 use Rattle.chip.specs.declared.Endpoint1.{Endpoint1}
@@ -20,7 +21,7 @@ abbrev pub ep2StoreTo : Endpoint2 → ℕ → Endpoint2
 ep2StoreTo e b = storeFifo (e .writepos) (full 2 (e .ring)) e (ep2Stored e b)
 
 abbrev pub ep3StoreTo : Endpoint3 → ℕ → Endpoint3
-ep3StoreTo e b = storeFifo (e .writepos) (e .armed) e (ep3Stored e b)
+ep3StoreTo e b = storeFifo (e .writepos) (isOn (e .armed)) e (ep3Stored e b)
 
 -- ---- reads
 

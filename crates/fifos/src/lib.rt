@@ -1,9 +1,12 @@
-// R0 to R4, the FIFO registers, on the endpoint that each belongs to (document 01, "Writes" and "Reads").
+// R0 to R4, the FIFO registers, on the endpoint that each belongs to, and their writes on the record (document 01, "Writes" and
+// "Reads").
+use chip::Chip;
 use chip::Endpoint0;
 use chip::Endpoint1;
 use chip::Endpoint2;
 use chip::Endpoint3;
 ghost use mathlib.Core.Path.{_≡_};
+ghost use Rattle.rules.specs.Write.{writeEp0fifo, writeEp2infifo, writeEp3infifo};
 ghost use Rattle.fifos.specs.Fifo.{ep0StoreTo, ep2StoreTo, ep3StoreTo, positionTo, ep0ByteOf, ep1ByteOf, setupByteOf};
 
 // A byte written to R0; busy while the buffer is the chip's.
@@ -48,7 +51,7 @@ pub fn store_ep3(mut endpoint: Endpoint3, byte: u8) -> Endpoint3
     if 64 <= position {
         return endpoint;
     }
-    if endpoint.armed {
+    if endpoint.armed == 1 {
         return endpoint;
     }
     endpoint.bytes[position as usize] = byte;
@@ -97,4 +100,37 @@ pub fn setup_byte(endpoint: Endpoint0) -> u8
         return endpoint.setup[position as usize];
     }
     0
+}
+
+// ---- on the record
+
+// R0
+pub fn write_ep0fifo(mut chip: Chip, byte: u8) -> Chip
+    ensures { λ r. ⌜ r ≡ writeEp0fifo chip byte ⌝ }
+{
+    let old = chip.ep0;
+    let busy = (old.armed == 1) | (chip.registers.epirq & Chip::OUT0DAVIRQ != 0);
+    let new = store_ep0(old, busy, byte);
+    chip.ep0 = new;
+    chip
+}
+
+// R2
+pub fn write_ep2infifo(mut chip: Chip, byte: u8) -> Chip
+    ensures { λ r. ⌜ r ≡ writeEp2infifo chip byte ⌝ }
+{
+    let old = chip.ep2;
+    let new = store_ep2(old, byte);
+    chip.ep2 = new;
+    chip
+}
+
+// R3
+pub fn write_ep3infifo(mut chip: Chip, byte: u8) -> Chip
+    ensures { λ r. ⌜ r ≡ writeEp3infifo chip byte ⌝ }
+{
+    let old = chip.ep3;
+    let new = store_ep3(old, byte);
+    chip.ep3 = new;
+    chip
 }

@@ -8,41 +8,9 @@ ghost use mathlib.Core.Path.{_≡_};
 ghost use Rattle.chip.specs.declared.Chip.{Chip};
 ghost use Rattle.chip.specs.Set.{setRegisters};
 ghost use Rattle.model.specs.Spi.{writeTo, readTo, readOf};
-ghost use Rattle.rules.specs.Write.{writeEp0fifo, writeEp2infifo, writeEp3infifo, writeEp0bc, writeEp2inbc, writeEp3inbc};
-ghost use Rattle.rules.specs.Write.{writeClrtogs, writeEpirq, writeUsbctl};
+ghost use Rattle.rules.specs.Write.{writeEp0bc, writeEp2inbc, writeEp3inbc, toggleCleared, writeClrtogs, writeEpirq, writeUsbctl};
 ghost use Rattle.rules.specs.Spi.{stepRegister, max3420eSpi};
 ghost use Rattle.registers.specs.Part.{armedTo, releasedTo, plainRule, plainByte};
-
-// R0
-fn write_ep0fifo(mut chip: Chip, byte: u8) -> Chip
-    ensures { λ r. ⌜ r ≡ writeEp0fifo chip byte ⌝ }
-{
-    let old = chip.ep0;
-    let busy = old.armed | (chip.registers.epirq & Chip::OUT0DAVIRQ != 0);
-    let new = fifos::store_ep0(old, busy, byte);
-    chip.ep0 = new;
-    chip
-}
-
-// R2
-fn write_ep2infifo(mut chip: Chip, byte: u8) -> Chip
-    ensures { λ r. ⌜ r ≡ writeEp2infifo chip byte ⌝ }
-{
-    let old = chip.ep2;
-    let new = fifos::store_ep2(old, byte);
-    chip.ep2 = new;
-    chip
-}
-
-// R3
-fn write_ep3infifo(mut chip: Chip, byte: u8) -> Chip
-    ensures { λ r. ⌜ r ≡ writeEp3infifo chip byte ⌝ }
-{
-    let old = chip.ep3;
-    let new = fifos::store_ep3(old, byte);
-    chip.ep3 = new;
-    chip
-}
 
 // R5
 pub fn write_ep0bc(mut chip: Chip, byte: u8) -> Chip
@@ -50,9 +18,9 @@ pub fn write_ep0bc(mut chip: Chip, byte: u8) -> Chip
 {
     let n = byte & Chip::COUNT_BITS;
     let epirq = chip.registers.epirq;
-    if (n <= 64) & !(chip.ep0.armed | (epirq & Chip::OUT0DAVIRQ != 0)) {
+    if (n <= 64) & !((chip.ep0.armed == 1) | (epirq & Chip::OUT0DAVIRQ != 0)) {
         chip.ep0.count = n;
-        chip.ep0.armed = true;
+        chip.ep0.armed = 1;
         chip.ep0.writepos = 0;
         let kept = epirq & !Chip::IN0BAVIRQ;
         chip.registers.epirq = kept;
@@ -95,9 +63,9 @@ pub fn write_ep2inbc(mut chip: Chip, count: u8) -> Chip
 pub fn write_ep3inbc(mut chip: Chip, n: u8) -> Chip
     ensures { λ r. ⌜ r ≡ writeEp3inbc chip n ⌝ }
 {
-    if (n <= 64) & !chip.ep3.armed {
+    if (n <= 64) & (chip.ep3.armed != 1) {
         chip.ep3.count = n;
-        chip.ep3.armed = true;
+        chip.ep3.armed = 1;
         chip.ep3.writepos = 0;
         let kept = chip.registers.epirq & !Chip::IN3BAVIRQ;
         chip.registers.epirq = kept;
@@ -105,13 +73,23 @@ pub fn write_ep3inbc(mut chip: Chip, n: u8) -> Chip
     chip
 }
 
+// A toggle after R10 is written; the mask is its bit there.
+fn clear_toggle(toggle: u8, byte: u8, mask: u8) -> u8
+    ensures { λ r. ⌜ r ≡ toggleCleared mask byte toggle ⌝ }
+{
+    if byte & mask != 0 {
+        return 0;
+    }
+    toggle
+}
+
 // R10
 pub fn write_clrtogs(mut chip: Chip, byte: u8) -> Chip
     ensures { λ r. ⌜ r ≡ writeClrtogs chip byte ⌝ }
 {
-    let toggle1 = chip.ep1.toggle & (byte & Chip::CTGEP1OUT == 0);
-    let toggle2 = chip.ep2.toggle & (byte & Chip::CTGEP2IN == 0);
-    let toggle3 = chip.ep3.toggle & (byte & Chip::CTGEP3IN == 0);
+    let toggle1 = clear_toggle(chip.ep1.toggle, byte, Chip::CTGEP1OUT);
+    let toggle2 = clear_toggle(chip.ep2.toggle, byte, Chip::CTGEP2IN);
+    let toggle3 = clear_toggle(chip.ep3.toggle, byte, Chip::CTGEP3IN);
     chip.ep1.toggle = toggle1;
     chip.ep2.toggle = toggle2;
     chip.ep3.toggle = toggle3;
@@ -192,9 +170,9 @@ pub fn write_register(mut chip: Chip, register: u8, byte: u8) -> Chip
     ensures { λ r. ⌜ r ≡ writeTo max3420eSpi chip register byte ⌝ }
 {
     match register {
-        0 => write_ep0fifo(chip, byte),
-        2 => write_ep2infifo(chip, byte),
-        3 => write_ep3infifo(chip, byte),
+        0 => fifos::write_ep0fifo(chip, byte),
+        2 => fifos::write_ep2infifo(chip, byte),
+        3 => fifos::write_ep3infifo(chip, byte),
         5 => write_ep0bc(chip, byte),
         7 => write_ep2inbc(chip, byte),
         8 => write_ep3inbc(chip, byte),

@@ -17,11 +17,11 @@ slice-aggregate-store-all c = search needs
 
 store-all-requires : tie.Need-store-all-requires
 store-all-requires c κs =
-    let long : length (c .before .before .before .before .before .before .args .endpoint .bytes) ≡ 64 = search needs in (
+    let long : length (c .before .before .before .before .before .before .before .args .endpoint .bytes) ≡ 64 = search needs in (
       omega (arith, c .before .before .limit-of .ensures .1),
       c .before .before .limit-of .ensures .1,
-      c .before .before .before .before .before .before .pre .0,
-      c .before .before .before .before .before .before .pre .1,
+      c .before .before .before .before .before .before .before .pre .0,
+      c .before .before .before .before .before .before .before .pre .1,
     )
 
 same-length : tie.Need-same-length
@@ -29,7 +29,7 @@ same-length c = search needs
 
 returns : tie.Need-returns
 returns c d =
-    let a = c .before .before .before .before .before .before .before .before .before .before .args in
+    let a = c .before .before .before .before .before .before .before .before .before .before .before .args in
     let s = c .before .before .before .store-all in
     written-ep3 d (a .endpoint) (now (a .bytes)) (now (a .reply)) (s .last .1 .1 .1 .1 .1 .0) (filling (s .last .0) (s .result))
     (rw (c .before .before .before .before .before .before .limit-of .ensures .0) at (s .ensures))

@@ -9,8 +9,8 @@ use Rattle.rules.specs.Write.{ep2Stored}
 use Rattle.chip.specs.Set.{setEp2}
 use Rattle.chip.specs.declared.Endpoint2.{Endpoint2}
 use Rattle.bits.proofs.First.{unless-map}
-use Rattle.registers.proofs.write_ep2infifo.Statement.{statement}
-use Rattle.registers.proofs.write_ep2infifo.Tie as tie
+use Rattle.fifos.proofs.write_ep2infifo.Statement.{statement}
+use Rattle.fifos.proofs.write_ep2infifo.Tie as tie
 
 store-ep2-requires : tie.Need-store-ep2-requires
 store-ep2-requires c κs = search needs
