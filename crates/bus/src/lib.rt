@@ -40,7 +40,7 @@ fn settle_oscillator(mut chip: Chip, event: Event) -> EventAnswer
     if chip.registers.usbctl & Chip::CHIPRES != 0 {
         return answer_with(chip, EventReply::Done);
     }
-    chip.power.oscok = true;
+    chip.power.oscok = 1;
     answer_with(raise_usbirq(chip, Chip::OSCOKIRQ), EventReply::Done)
 }
 
@@ -48,10 +48,10 @@ fn settle_oscillator(mut chip: Chip, event: Event) -> EventAnswer
 fn raise_vbus(mut chip: Chip, event: Event) -> EventAnswer
     ensures { λ r. ⌜ ((vs : List ℕ) → r ≡ outcomeAnswer (vbusOnEvent chip event vs)) ⌝ }
 {
-    if chip.power.vbus {
+    if chip.power.vbus == 1 {
         return answer_with(chip, EventReply::Done);
     }
-    chip.power.vbus = true;
+    chip.power.vbus = 1;
     answer_with(raise_usbirq(chip, Chip::VBUSIRQ), EventReply::Done)
 }
 
@@ -59,10 +59,10 @@ fn raise_vbus(mut chip: Chip, event: Event) -> EventAnswer
 fn drop_vbus(mut chip: Chip, event: Event) -> EventAnswer
     ensures { λ r. ⌜ ((vs : List ℕ) → r ≡ outcomeAnswer (vbusOffEvent chip event vs)) ⌝ }
 {
-    if !chip.power.vbus {
+    if chip.power.vbus != 1 {
         return answer_with(chip, EventReply::Done);
     }
-    chip.power.vbus = false;
+    chip.power.vbus = 0;
     answer_with(raise_usbirq(chip, Chip::NOVBUSIRQ), EventReply::Done)
 }
 

@@ -4,6 +4,7 @@ use mathlib.Core.List.{List}
 use Prim.Native.Nat.{ℕ}
 use lib.Dec.{eqb}
 use lib.ListN.{take}
+use Rattle.bits.specs.Flag.{isOn}
 use Rattle.ring.specs.Ring.{oldestPacket}
 use Rattle.chip.specs.declared.Chip.{Chip}
 use Rattle.chip.specs.Mask.{ep0inak, ep2inak, ep3inak, in0bavirq, in2bavirq, in3bavirq}
@@ -27,7 +28,7 @@ abbrev pub bavAt : ℕ → ℕ
 bavAt n = ofEndpoint n in0bavirq in2bavirq in3bavirq
 
 abbrev pub toggleAt : ℕ → Chip → Bool
-toggleAt n c = ofEndpoint n (c .ep0 .intoggle) (c .ep2 .toggle) (c .ep3 .toggle)
+toggleAt n c = ofEndpoint n (isOn (c .ep0 .intoggle)) (isOn (c .ep2 .toggle)) (isOn (c .ep3 .toggle))
 
 abbrev pub packetAt : ℕ → Chip → List ℕ
 packetAt n c = ofEndpoint n (take (c .ep0 .count) (c .ep0 .bytes)) (oldestPacket 2 (c .ep2 .ring)) (take (c .ep3 .count) (c .ep3 .bytes))

@@ -1,6 +1,7 @@
 // IN at endpoints 0, 2 and 3 that is heard (document 01, "The bus side"). The verdict comes first; then, from the verdict, what is replied,
 // the packet's bytes copied at once, and the record after. One way for the three endpoints, so that no two ways join holding a record.
 use chip::Chip;
+use chip::flipped;
 use event_answer::EventAnswer;
 use event_answer::EventReply;
 use event_answer::answer_with;
@@ -55,9 +56,9 @@ fn toggle_at(chip: Chip, endpoint: u8) -> bool
     ensures { λ r. ⌜ r ≡ toggleAt endpoint chip ⌝ }
 {
     match endpoint {
-        0 => chip.ep0.intoggle,
-        2 => chip.ep2.toggle,
-        _ => chip.ep3.toggle,
+        0 => chip.ep0.intoggle == 1,
+        2 => chip.ep2.toggle == 1,
+        _ => chip.ep3.toggle == 1,
     }
 }
 
@@ -130,21 +131,21 @@ fn gone_at(mut chip: Chip, endpoint: u8) -> Chip
 {
     match endpoint {
         0 => {
-            let toggle = !chip.ep0.intoggle;
-            chip.ep0.armed = false;
+            let toggle = flipped(chip.ep0.intoggle);
+            chip.ep0.armed = 0;
             chip.ep0.intoggle = toggle;
         }
         2 => {
             let ring = chip.ep2.ring;
             let left = ring.release_oldest();
-            let toggle = !chip.ep2.toggle;
+            let toggle = flipped(chip.ep2.toggle);
             chip.ep2.ring.oldest = left.oldest;
             chip.ep2.ring.waiting = left.waiting;
             chip.ep2.toggle = toggle;
         }
         _ => {
-            let toggle = !chip.ep3.toggle;
-            chip.ep3.armed = false;
+            let toggle = flipped(chip.ep3.toggle);
+            chip.ep3.armed = 0;
             chip.ep3.toggle = toggle;
         }
     }

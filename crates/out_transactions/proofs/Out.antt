@@ -7,6 +7,7 @@ use Prim.Native.Nat.{ℕ, _<_}
 use native.Mathlib.Omega.{arith}
 use borrow.Author.Tests.{leb-false}
 use Rattle.bits.specs.Bit.{has}
+use Rattle.bits.specs.Flag.{isOn}
 use Rattle.bits.proofs.First.{first-none}
 use Rattle.ring.specs.Ring.{full}
 use Rattle.chip.specs.declared.Chip.{Chip}
@@ -49,4 +50,4 @@ store-room c data1 e =
     leb-false 2 (c .ep1 .ring .waiting)
     (first-none isStore
     ((has (c .registers .clrtogs) ep1disab, Silent) ∷ (has (c .registers .epstalls) stlep1out, Stall) ∷ (full 2 (c .ep1 .ring), Nak)
-    ∷ (not (Bool·beq data1 (c .ep1 .toggle)), Drop) ∷ []) Store refl (ap isStore e) 2)
+    ∷ (not (Bool·beq data1 (isOn (c .ep1 .toggle))), Drop) ∷ []) Store refl (ap isStore e) 2)

@@ -3,6 +3,7 @@
 use chip::Chip;
 use chip::Endpoint0;
 use chip::Endpoint1;
+use chip::flipped;
 use event_answer::EventAnswer;
 use event_answer::EventReply;
 use event_answer::answer_with;
@@ -25,13 +26,13 @@ fn ep0_setup(mut e: Endpoint0, payload: &[u8]) -> Endpoint0
     let mut sudfifo = [0u8; 8];
     bytes::copy(payload, &mut sudfifo);
     e.setup = sudfifo;
-    e.armed = false;
+    e.armed = 0;
     e.readpos = 0;
     e.writepos = 0;
     e.setuppos = 0;
-    e.intoggle = true;
-    e.outtoggle = true;
-    e.current = true;
+    e.intoggle = 1;
+    e.outtoggle = 1;
+    e.current = 1;
     e
 }
 
@@ -76,7 +77,7 @@ fn ep0_filled(mut e: Endpoint0, payload: &[u8]) -> Endpoint0
     e.bytes = buffer;
     e.count = count as u8;
     e.readpos = 0;
-    e.outtoggle = !e.outtoggle;
+    e.outtoggle = flipped(e.outtoggle);
     e
 }
 
@@ -109,7 +110,7 @@ fn ep1_filled(mut e: Endpoint1, payload: &[u8]) -> Endpoint1
 {
     let ring = e.ring;
     e.ring = ring.fill_next(payload);
-    e.toggle = !e.toggle;
+    e.toggle = flipped(e.toggle);
     e
 }
 

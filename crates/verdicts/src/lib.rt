@@ -18,10 +18,10 @@ pub fn seen(chip: Chip) -> bool
     ensures { λ r. ⌜ r ≡ seen (connectionOf chip) ⌝ }
 {
     let usbctl = chip.registers.usbctl;
-    chip.power.oscok
+    (chip.power.oscok == 1)
         & (usbctl & Chip::CHIPRES == 0)
         & (usbctl & Chip::CONNECT != 0)
-        & ((usbctl & Chip::VBGATE == 0) | chip.power.vbus)
+        & ((usbctl & Chip::VBGATE == 0) | (chip.power.vbus == 1))
 }
 
 // Seen, undamaged, at the chip's address.
@@ -69,7 +69,7 @@ pub fn sets_address(chip: Chip) -> bool
 fn ep0_busy(chip: Chip) -> bool
     ensures { λ r. ⌜ r ≡ ep0Busy chip ⌝ }
 {
-    chip.ep0.armed | (chip.registers.epirq & Chip::OUT0DAVIRQ != 0)
+    (chip.ep0.armed == 1) | (chip.registers.epirq & Chip::OUT0DAVIRQ != 0)
 }
 
 fn out0_idle(chip: Chip) -> OutVerdict
@@ -109,7 +109,7 @@ fn out0_data(chip: Chip, data1: bool) -> OutVerdict
     if ep0_busy(chip) {
         return OutVerdict::Nak;
     }
-    if data1 != chip.ep0.outtoggle {
+    if data1 != (chip.ep0.outtoggle == 1) {
         return OutVerdict::Drop;
     }
     OutVerdict::Store
@@ -118,7 +118,7 @@ fn out0_data(chip: Chip, data1: bool) -> OutVerdict
 pub fn out0_verdict(chip: Chip, data1: bool, count: usize) -> OutVerdict
     ensures { λ r. ⌜ r ≡ out0Verdict chip data1 count ⌝ }
 {
-    if !chip.ep0.current {
+    if chip.ep0.current != 1 {
         return out0_idle(chip);
     }
     if reading(chip) {
@@ -139,7 +139,7 @@ pub fn out1_verdict(chip: Chip, data1: bool) -> OutVerdict
     if 2 <= chip.ep1.ring.waiting {
         return OutVerdict::Nak;
     }
-    if data1 != chip.ep1.toggle {
+    if data1 != (chip.ep1.toggle == 1) {
         return OutVerdict::Drop;
     }
     OutVerdict::Store
@@ -174,11 +174,11 @@ fn in0_data(chip: Chip, armed: bool) -> InVerdict
 pub fn in0_verdict(chip: Chip) -> InVerdict
     ensures { λ r. ⌜ r ≡ in0Verdict chip ⌝ }
 {
-    if !chip.ep0.current {
+    if chip.ep0.current != 1 {
         return in0_data(chip, false);
     }
     if reading(chip) {
-        return in0_data(chip, chip.ep0.armed);
+        return in0_data(chip, chip.ep0.armed == 1);
     }
     in0_status(chip)
 }
@@ -214,6 +214,6 @@ pub fn in3_verdict(chip: Chip) -> InVerdict
     in_verdict(
         chip.registers.clrtogs & Chip::EP3DISAB != 0,
         chip.registers.epstalls & Chip::STLEP3IN != 0,
-        chip.ep3.armed,
+        chip.ep3.armed == 1,
     )
 }

@@ -1,7 +1,8 @@
 -- `drop_vbus` meets its promise. The tests of the code are the definition's.
 use mathlib.Core.Path.{_∙_, ap}
-use borrow.Author.Tests.{not-true, not-false}
+use borrow.Author.Tests.{eq-eqb, ne-eqb}
 use borrow.Author.Needs.{needs}
+use Rattle.bits.specs.Flag.{isOn}
 use Rattle.chip.specs.declared.Chip.{Chip}
 use Rattle.event_answer.specs.Answer.{eventAnswerWith}
 use Rattle.event_answer.specs.declared.EventReply.the-variants.{Done}
@@ -16,7 +17,7 @@ returns : tie.Need-returns
 returns c =
     let a = c .before .before .before .args in
     λ vs. c .answer-with .ensures
-    ∙ ap (λ (d : Chip). eventAnswerWith d Done) (choice-false (a .chip .power .vbus) _ _ (not-true _ (c .before .if1 .taken)))
+    ∙ ap (λ (d : Chip). eventAnswerWith d Done) (choice-false (isOn (a .chip .power .vbus)) _ _ (ne-eqb _ _ (c .before .if1 .taken)))
 
 raise-usbirq-requires : tie.Need-raise-usbirq-requires
 raise-usbirq-requires c κs = search needs
@@ -30,7 +31,7 @@ returns-2 c =
     let first = c .before .before .before .if1 in
     λ vs. c .answer-with2 .ensures
     ∙ ap (λ (d : Chip). eventAnswerWith d Done)
-    (c .before .raise-usbirq .ensures ∙ choice-true (a .chip .power .vbus) _ _ (not-false _ (first .left)))
+    (c .before .raise-usbirq .ensures ∙ choice-true (isOn (a .chip .power .vbus)) _ _ (eq-eqb _ _ (first .left)))
 
 pub drop-vbus-spec : {M : Type 1} → statement M
 drop-vbus-spec =

@@ -1,6 +1,8 @@
 -- `raise_vbus` meets its promise. The tests of the code are the definition's.
 use mathlib.Core.Path.{_∙_, ap}
+use borrow.Author.Tests.{eq-eqb, ne-eqb}
 use borrow.Author.Needs.{needs}
+use Rattle.bits.specs.Flag.{isOn}
 use Rattle.chip.specs.declared.Chip.{Chip}
 use Rattle.event_answer.specs.Answer.{eventAnswerWith}
 use Rattle.event_answer.specs.declared.EventReply.the-variants.{Done}
@@ -13,9 +15,9 @@ answer-with-requires c κs = search needs
 
 returns : tie.Need-returns
 returns c =
-    let a = c .before .before .args in
+    let a = c .before .before .before .args in
     λ vs. c .answer-with .ensures
-    ∙ ap (λ (d : Chip). eventAnswerWith d Done) (choice-true (a .chip .power .vbus) _ _ (c .before .if1 .taken))
+    ∙ ap (λ (d : Chip). eventAnswerWith d Done) (choice-true (isOn (a .chip .power .vbus)) _ _ (eq-eqb _ _ (c .before .if1 .taken)))
 
 raise-usbirq-requires : tie.Need-raise-usbirq-requires
 raise-usbirq-requires c κs = search needs
@@ -25,10 +27,10 @@ answer-with-requires-2 c κs = search needs
 
 returns-2 : tie.Need-returns-2
 returns-2 c =
-    let a = c .before .before .before .before .args in
+    let a = c .before .before .before .before .before .args in
     let first = c .before .before .before .if1 in
     λ vs. c .answer-with2 .ensures
-    ∙ ap (λ (d : Chip). eventAnswerWith d Done) (c .before .raise-usbirq .ensures ∙ choice-false (a .chip .power .vbus) _ _ (first .left))
+    ∙ ap (λ (d : Chip). eventAnswerWith d Done) (c .before .raise-usbirq .ensures ∙ choice-false (isOn (a .chip .power .vbus)) _ _ (ne-eqb _ _ (first .left)))
 
 pub raise-vbus-spec : {M : Type 1} → statement M
 raise-vbus-spec =

@@ -15,6 +15,9 @@ slice-aggregate-copy c = search needs
 copy-requires : tie.Need-copy-requires
 copy-requires c κs = let long : length (c .before .before .before .args .e .bytes) ≡ 64 = search needs in omega arith
 
+flipped-requires : tie.Need-flipped-requires
+flipped-requires c κs = search needs
+
 cast-e : tie.Need-cast-e
 cast-e c = search needs
 
@@ -24,7 +27,7 @@ returns c =
     let copy = c .before .before .copy in
     let long : length (a .e .bytes) ≡ 64 = search needs in
     let fits : length (now (a .payload)) ≤ length (a .e .bytes) = omega arith in
-    rw (copy .ensures .0, copy .ensures .1, copied-front (now (a .payload)) (a .e .bytes) fits)
+    rw (c .flipped .ensures, copy .ensures .0, copy .ensures .1, copied-front (now (a .payload)) (a .e .bytes) fits)
 
 pub ep0-filled-spec : {M : Type 1} → statement M
-ep0-filled-spec = tie.close (tie.spec slice-aggregate-copy copy-requires cast-e returns)
+ep0-filled-spec = tie.close (tie.spec slice-aggregate-copy copy-requires cast-e flipped-requires returns)
