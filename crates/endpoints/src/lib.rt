@@ -9,10 +9,10 @@ use chip::Endpoint3;
 use output::Output;
 use ring::Ring;
 
-fn put_toggle(toggle: bool, page: &mut [u8], output: Output) -> Output
+fn put_toggle(toggle: u8, page: &mut [u8], output: Output) -> Output
     ensures { λ r. ⌜ r .filled ≤ length (now (page .entry)) ⌝ }
 {
-    if toggle {
+    if toggle == 1 {
         return output::put(b"DATA1  ", page, output);
     }
     output::put(b"DATA0  ", page, output)
@@ -34,7 +34,7 @@ fn put_count(count: u8, page: &mut [u8], output: Output) -> Output
 }
 
 // An endpoint's line, up to what waits: its name, its toggle, its position.
-fn put_endpoint(name: &[u8], toggle: bool, position: u8, page: &mut [u8], output: Output) -> Output
+fn put_endpoint(name: &[u8], toggle: u8, position: u8, page: &mut [u8], output: Output) -> Output
     ensures { λ r. ⌜ r .filled ≤ length (now (page .entry)) ⌝ }
 {
     let named = output::put(name, page, output);
@@ -112,7 +112,7 @@ fn put_in0(endpoint: Endpoint0, page: &mut [u8], output: Output) -> Output
         page,
         output,
     );
-    put_single(endpoint.armed, &bytes, endpoint.count, page, lead)
+    put_single(endpoint.armed == 1, &bytes, endpoint.count, page, lead)
 }
 
 fn put_out0(endpoint: Endpoint0, came: bool, page: &mut [u8], output: Output) -> Output
@@ -166,7 +166,7 @@ fn put_in3(endpoint: Endpoint3, page: &mut [u8], output: Output) -> Output
         page,
         output,
     );
-    put_single(endpoint.armed, &bytes, endpoint.count, page, lead)
+    put_single(endpoint.armed == 1, &bytes, endpoint.count, page, lead)
 }
 
 // Every endpoint.

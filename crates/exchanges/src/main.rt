@@ -152,7 +152,7 @@ fn arm_ep0(mut chip: Chip, byte: u8, count: u8) -> Chip {
     let mut e = chip.ep0;
     e.bytes = [byte; 64];
     e.count = count;
-    e.armed = true;
+    e.armed = 1;
     chip.ep0 = e;
     chip.registers.epirq = epirq;
     chip

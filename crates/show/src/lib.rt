@@ -20,7 +20,7 @@ pub fn put_pin(pin: Pin, page: &mut [u8], output: Output) -> Output
 fn put_vbus(power: Power, page: &mut [u8], output: Output) -> Output
     ensures { λ r. ⌜ r .filled ≤ length (now (page .entry)) ⌝ }
 {
-    if power.vbus {
+    if power.vbus == 1 {
         return output::put(b"  VBUS on, oscillator ", page, output);
     }
     output::put(b"  VBUS off, oscillator ", page, output)
@@ -29,7 +29,7 @@ fn put_vbus(power: Power, page: &mut [u8], output: Output) -> Output
 fn put_oscillator(power: Power, page: &mut [u8], output: Output) -> Output
     ensures { λ r. ⌜ r .filled ≤ length (now (page .entry)) ⌝ }
 {
-    if power.oscok {
+    if power.oscok == 1 {
         return output::put(b"stable, INT ", page, output);
     }
     output::put(b"not stable, INT ", page, output)

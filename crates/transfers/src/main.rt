@@ -80,7 +80,7 @@ fn send_long(chip: Chip, bytes: &[u8]) -> Chip {
 // Powered and stable, `7A 08` sent.
 fn power_on() -> Chip {
     let mut chip = Chip::power_on();
-    chip.power.oscok = true;
+    chip.power.oscok = 1;
     send(chip, b"\x7A\x08")
 }
 
