@@ -1,5 +1,5 @@
 -- What becomes of each request (document 01, "The firmware").
-use mathlib.Core.Bool.{Bool, true, false, cond, _&&_, _||_}
+use mathlib.Core.Bool.{Bool, cond, _&&_, _||_}
 use mathlib.Core.List.{List, [], _∷_}
 use Prim.Native.Nat.{ℕ, _+_, _*_, _/_, _%_}
 use lib.Dec.{eqb, leb, ltb}
@@ -13,6 +13,7 @@ use Rattle.request.specs.declared.Decision.the-variants.{Stall, Send, Ac
 use Rattle.request.specs.declared.Endpoints.the-variants.{Unchanged, ClearHalt, SetHalt, Configure}
 use Rattle.request.specs.Record.{configured, setConfiguration, setWakeup, setHalted}
 use Rattle.bits.specs.First.{firstOf}
+use Rattle.bits.specs.Flag.{isOn}
 
 -- ---- the fields of a request
 
@@ -61,28 +62,24 @@ noData q = eqb (q .wlength) 0
 abbrev pub rules : Request → Firmware → List (Bool × Decision)
 rules q f =
     -- 80 00: `01 00`, or `03 00` with remote wakeup enabled
-    (asks q 0x80 0x00 && fields q 0 0, Send (Status (cond (f .wakeup) 3 1)))
+    (asks q 0x80 0x00 && fields q 0 0, Send (Status (cond (isOn (f .wakeup)) 3 1)))
     -- 81 00, configured: `00 00`
     ∷ (asks q 0x81 0x00 && fields q 0 0 && configured f, Send (Status 0))
     -- 82 00: `00 00` for wIndex 0 or 80; for 83, configured, byte 0 tells the halt
     ∷ (asks q 0x82 0x00 && (fields q 0 0x00 || fields q 0 0x80), Send (Status 0))
-    ∷ (asks q 0x82 0x00 && fields q 0 0x83 && configured f, Send (Status (cond (f .halted) 1 0)))
+    ∷ (asks q 0x82 0x00 && fields q 0 0x83 && configured f, Send (Status (cond (isOn (f .halted)) 1 0)))
     -- 00 01 and 00 03, wValue 1: remote wakeup off, on
-    ∷ (asks q 0x00 0x01 && fields q 1 0 && noData q, Accept (setWakeup false f) Unchanged)
-    ∷ (asks q 0x00 0x03 && fields q 1 0 && noData q, Accept (setWakeup true f) Unchanged)
+    ∷ (asks q 0x00 0x01 && fields q 1 0 && noData q, Accept (setWakeup 0 f) Unchanged)
+    ∷ (asks q 0x00 0x03 && fields q 1 0 && noData q, Accept (setWakeup 1 f) Unchanged)
     -- 02 01 and 02 03, wIndex 83, configured: halt off (clears EP3's toggle), on
-    ∷ (asks q 0x02 0x01 && fields q 0 0x83 && noData q && configured f, Accept (setHalted false f) ClearHalt)
-    ∷ (asks q 0x02 0x03 && fields q 0 0x83 && noData q && configured f, Accept (setHalted true f) SetHalt)
+    ∷ (asks q 0x02 0x01 && fields q 0 0x83 && noData q && configured f, Accept (setHalted 0 f) ClearHalt)
+    ∷ (asks q 0x02 0x03 && fields q 0 0x83 && noData q && configured f, Accept (setHalted 1 f) SetHalt)
     -- 00 05, any wValue: ACK only
     ∷ (asks q 0x00 0x05 && eqb (q .windex) 0 && noData q, Accept f Unchanged)
     -- 80 08: the configuration
     ∷ (asks q 0x80 0x08 && fields q 0 0, Send (Byte (f .configuration)))
     -- 00 09, wValue 0 or 1: sets it, ends a halt, clears all three toggles
-    ∷ (
-      asks q 0x00 0x09 && eqb (q .windex) 0 && noData q && leb (q .wvalue) 1,
-      Accept
-          (setHalted false (setConfiguration (wvaluel q) f)) Configure,
-    )
+    ∷ (asks q 0x00 0x09 && eqb (q .windex) 0 && noData q && leb (q .wvalue) 1, Accept (setHalted 0 (setConfiguration (wvaluel q) f)) Configure)
     -- 80 06: types 1, 2; 3 with an index that exists and any wIndex
     ∷ (asks q 0x80 0x06 && eqb (wvalueh q) 0x01 && plain q, Send Device)
     ∷ (asks q 0x80 0x06 && eqb (wvalueh q) 0x02 && plain q, Send Configuration)

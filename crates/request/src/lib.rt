@@ -9,10 +9,11 @@ ghost use Rattle.request.specs.Request.{fields, plain, decisionOf};
 use descriptor::Data;
 
 // The configuration, whether remote wakeup is enabled, and whether endpoint 3 is halted.
+#[repr(C)]
 pub struct Firmware {
     pub configuration: u8,
-    pub wakeup: bool,
-    pub halted: bool,
+    pub wakeup: u8, // a flag: 1 is on, 0 is off
+    pub halted: u8, // a flag
 }
 
 impl Firmware {
@@ -21,15 +22,18 @@ impl Firmware {
     {
         Firmware {
             configuration: 0,
-            wakeup: false,
-            halted: false,
+            wakeup: 0,
+            halted: 0,
         }
     }
 
     pub fn is_sound(self) -> bool
         ensures { λ r. ⌜ r ≡ soundFirmware self ⌝ }
     {
-        (self.configuration <= 1) & (!self.halted | (self.configuration == 1))
+        (self.configuration <= 1)
+            & (self.wakeup <= 1)
+            & (self.halted <= 1)
+            & ((self.halted != 1) | (self.configuration == 1))
     }
 }
 
@@ -110,7 +114,7 @@ fn read_device(request: Request, firmware: Firmware) -> Decision
     match code {
         0x00 => send_if(
             fields(request, 0, 0),
-            Data::Status(select(firmware.wakeup, 3, 1)),
+            Data::Status(select(firmware.wakeup == 1, 3, 1)),
         ),
         0x06 => match descriptor_type {
             0x01 => send_if(plain(request), Data::Device),
@@ -156,7 +160,7 @@ fn read_endpoint(request: Request, firmware: Firmware) -> Decision
             }
             send_if(
                 fields(request, 0, 0x83) & (firmware.configuration == 1),
-                Data::Status(select(firmware.halted, 1, 0)),
+                Data::Status(select(firmware.halted == 1, 1, 0)),
             )
         }
         0x01..=0xFF => Decision::Stall,
@@ -173,7 +177,7 @@ fn write_device(request: Request, firmware: Firmware) -> Decision
         0x01 => accept_if(
             fields(request, 1, 0) & (request.wlength == 0),
             Firmware {
-                wakeup: false,
+                wakeup: 0,
                 ..firmware
             },
             Endpoints::Unchanged,
@@ -181,7 +185,7 @@ fn write_device(request: Request, firmware: Firmware) -> Decision
         0x03 => accept_if(
             fields(request, 1, 0) & (request.wlength == 0),
             Firmware {
-                wakeup: true,
+                wakeup: 1,
                 ..firmware
             },
             Endpoints::Unchanged,
@@ -195,7 +199,7 @@ fn write_device(request: Request, firmware: Firmware) -> Decision
             (request.windex == 0) & (request.wlength == 0) & (request.wvalue <= 1),
             Firmware {
                 configuration: (request.wvalue % 256) as u8,
-                halted: false, // a new configuration ends a halt
+                halted: 0, // a new configuration ends a halt
                 ..firmware
             },
             Endpoints::Configure,
@@ -231,7 +235,7 @@ fn write_endpoint(request: Request, firmware: Firmware) -> Decision
         0x01 => accept_if(
             ok,
             Firmware {
-                halted: false,
+                halted: 0,
                 ..firmware
             },
             Endpoints::ClearHalt,
@@ -239,7 +243,7 @@ fn write_endpoint(request: Request, firmware: Firmware) -> Decision
         0x03 => accept_if(
             ok,
             Firmware {
-                halted: true,
+                halted: 1,
                 ..firmware
             },
             Endpoints::SetHalt,

@@ -8,8 +8,8 @@ use Rattle.request.proofs.read_device.Tie as tie
 
 returns : tie.Need-returns
 returns c =
-    decided _ _ (c .before .before .before .before .before .before .pre) (c .before .before .before .match .keys1)
-    (c .send-if .ensures ∙ rw (c .before .before .fields .ensures, c .before .select .ensures))
+    decided _ _ (c .before .before .before .before .before .before .before .pre) (c .before .before .before .before .match .keys1)
+    (c .send-if .ensures ∙ rw (c .before .before .before .fields .ensures, c .before .select .ensures))
 
 returns-2 : tie.Need-returns-2
 returns-2 c =

@@ -13,10 +13,10 @@ returns c =
 
 returns-2 : tie.Need-returns-2
 returns-2 c =
-    let b = c .before .before .before .before in
+    let b = c .before .before .before .before .before in
     decided _ _ (b .before .before .before .before .pre) (b .before .before .before .match .keys1)
     (rw (← b .before .before .fields .ensures, ← b .before .fields2 .ensures, b .if1 .left)
-    (c .send-if .ensures ∙ rw (c .before .before .before .fields3 .ensures, c .before .select .ensures)))
+    (c .send-if .ensures ∙ rw (c .before .before .before .before .fields3 .ensures, c .before .select .ensures)))
 
 returns-3 : tie.Need-returns-3
 returns-3 c = decided _ _ (c .before .pre) refl (simp (ne-eqb _ 0x00 (c .match .rest .1)))
