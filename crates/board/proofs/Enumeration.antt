@@ -7,7 +7,7 @@ use Rattle.request.specs.Request.{decisionOf}
 use Rattle.firmware.specs.Answer.{handled, servedOf}
 use Rattle.model.specs.Spi.{burstTo, burstOf}
 use Rattle.model.specs.Call.{answerOf, callTo, runTo}
-use Rattle.board.specs.Step.{setupAnswer, stepCalls}
+use Rattle.step_transfers.specs.Step.{setupAnswer, stepCalls}
 use Rattle.board.specs.Board.{boardTo}
 use Rattle.board.specs.Enumeration.{played, lessons}
 

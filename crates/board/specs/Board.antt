@@ -31,7 +31,7 @@ use Rattle.board.specs.declared.BoardEvent.{BoardEvent}
 use Rattle.board.specs.declared.BoardStep.{BoardStep}
 use Rattle.board.specs.declared.StepReply.{StepReply}
 use Rattle.board.specs.declared.StepReply.the-variants as step
-use Rattle.board.specs.Step.{setupRead, served, sudav, stepCalls}
+use Rattle.step_transfers.specs.Step.{setupRead, served, sudav, stepCalls}
 
 abbrev pub powerOnBoard : Board
 powerOnBoard = record { chip = powerOnChip; firmware = powerOnFirmware }

@@ -1,4 +1,3 @@
-pub mod Step
 pub mod Board
 pub mod Enumeration
 pub mod Made

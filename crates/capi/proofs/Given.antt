@@ -29,10 +29,10 @@ use Rattle.bus.specs.EventCall.{eventAnswer, eventBuffer}
 use Rattle.bus.proofs.Call.{refusal-of}
 use Rattle.board.specs.declared.Board.{Board}
 use Rattle.board.specs.declared.StepReply.the-variants as step
-use Rattle.board.specs.Step.{served, sudav}
+use Rattle.step_transfers.specs.Step.{served, sudav}
 use Rattle.board.specs.Board.{soundBoard, repliedStep, stepReplyOf, stepFirmware, stepBuffer}
 use Rattle.board.specs.Board.{stepChecked, checkedCalls, boardTo, boardStep, stepRefusal}
-use Rattle.board.proofs.Setup.{served-accepted}
+use Rattle.step_transfers.proofs.Setup.{served-accepted}
 use Rattle.flat.specs.declared.FlatChip.{FlatChip}
 use Rattle.flat.specs.declared.FlatFirmware.{FlatFirmware}
 use Rattle.flat.specs.Flat.{hasChipFlags, hasFirmwareFlags, chipOf, firmwareOf, flatChip, flatFirmware}

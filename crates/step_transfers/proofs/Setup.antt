@@ -29,11 +29,7 @@ use Rattle.firmware.proofs.Laws.{handled-numbers}
 use Rattle.model.specs.Call.{callTo}
 use Rattle.model.proofs.Runs.{transfer-buffer}
 use Rattle.rules.specs.Event.{max3420e}
-use Rattle.chip.specs.Pin.{pinOf}
-use Rattle.board.specs.declared.Board.{Board}
-use Rattle.board.specs.declared.StepReply.{StepReply}
-use Rattle.board.specs.Board.{steppedWith}
-use Rattle.board.specs.Step.{clearsSudav, setupAnswer, setupRead, served, serves}
+use Rattle.step_transfers.specs.Step.{clearsSudav, setupAnswer, setupRead, served, serves}
 
 answer-length : (c : Chip) → length (setupAnswer c) ≡ 9
 unfolding setupAnswer
@@ -96,9 +92,3 @@ unfolding handled servedOf
 serves-lent setup f xs ys r9 r10 eight sound hx hy =
     rw (sound, le-ltb (length xs) 64 hx, le-ltb (length ys) 64 hy, eq-eqb (length setup) 8 eight)
     (decision-same (decisionOf (requestOf setup) f) (requestOf setup .wlength) r9 r10 f xs ys)
-
--- ---- the answer of a step, part by part
-
-pub stepped-is : {b : Board} {r r′ : StepReply} {chip : Chip} {f : Firmware} → b .chip ≡ chip → b .firmware ≡ f → r ≡ r′
-    → steppedWith b r ≡ record { board = record { chip = chip; firmware = f }; reply = r′; pin = pinOf (chip .registers) }
-stepped-is p q e = λ i. record { board = record { chip = p i; firmware = q i }; reply = e i; pin = pinOf (p i .registers) }

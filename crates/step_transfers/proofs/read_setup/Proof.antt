@@ -5,14 +5,14 @@ use lib.ListN.{drop, replicate}
 use Rattle.chip.specs.Sound.{soundChip}
 use Rattle.model.specs.Call.{runTo}
 use Rattle.rules.proofs.Sound.{stays-sound}
-use Rattle.board.specs.Step.{clearsSudav, setupAnswer}
-use Rattle.board.proofs.Sends.{sends-to, sends-reply}
+use Rattle.step_transfers.specs.Step.{clearsSudav, setupAnswer}
+use Rattle.step_transfers.proofs.Sends.{sends-to, sends-reply}
 use borrow.Author.Needs.{needs}
-use Rattle.board.proofs.read_setup.Statement.{statement}
-use Rattle.board.proofs.read_setup.Tie as tie
-use Rattle.board.proofs.read_setup.Reads as reads
-use Rattle.board.proofs.read_setup.Lts as lts
-use Rattle.board.proofs.send.Reads as send-reads
+use Rattle.step_transfers.proofs.read_setup.Statement.{statement}
+use Rattle.step_transfers.proofs.read_setup.Tie as tie
+use Rattle.step_transfers.proofs.read_setup.Reads as reads
+use Rattle.step_transfers.proofs.read_setup.Lts as lts
+use Rattle.step_transfers.proofs.send.Reads as send-reads
 use Rattle.bursts.proofs.read_setup.Reads as read-setup-reads
 
 send-requires : tie.Need-send-requires

@@ -6,17 +6,17 @@ use Rattle.model.specs.Call.{callTo, runTo}
 use Rattle.model.proofs.Runs.{run-append}
 use Rattle.rules.specs.Event.{max3420e}
 use Rattle.rules.proofs.Sound.{stays-sound}
-use Rattle.board.specs.Step.{sends, writesEndpoints}
+use Rattle.step_transfers.specs.Step.{sends, writesEndpoints}
 use borrow.Author.Needs.{needs}
-use Rattle.board.proofs.serve_reply.Statement.{statement}
-use Rattle.board.proofs.serve_reply.Tie as tie
-use Rattle.board.proofs.serve_reply.Reads as reads
-use Rattle.board.proofs.serve_reply.Lts as lts
-use Rattle.board.proofs.acknowledge.Reads as acknowledge-reads
-use Rattle.board.proofs.send.Reads as send-reads
-use Rattle.board.proofs.send_data.Reads as send-data-reads
-use Rattle.board.proofs.stall_byte.Reads as stall-byte-reads
-use Rattle.board.proofs.write_endpoints.Reads as write-endpoints-reads
+use Rattle.step_transfers.proofs.serve_reply.Statement.{statement}
+use Rattle.step_transfers.proofs.serve_reply.Tie as tie
+use Rattle.step_transfers.proofs.serve_reply.Reads as reads
+use Rattle.step_transfers.proofs.serve_reply.Lts as lts
+use Rattle.step_transfers.proofs.acknowledge.Reads as acknowledge-reads
+use Rattle.step_transfers.proofs.send.Reads as send-reads
+use Rattle.step_transfers.proofs.send_data.Reads as send-data-reads
+use Rattle.step_transfers.proofs.stall_byte.Reads as stall-byte-reads
+use Rattle.step_transfers.proofs.write_endpoints.Reads as write-endpoints-reads
 
 enum-known-reply : tie.Need-enum-known-reply
 enum-known-reply c = search needs

@@ -1,11 +1,11 @@
 use mathlib.Core.Path.{_∙_}
 use Rattle.spi.proofs.Call.{acknowledge-part}
-use Rattle.board.proofs.Sends.{sends-write}
+use Rattle.step_transfers.proofs.Sends.{sends-write}
 use borrow.Author.Needs.{needs}
-use Rattle.board.proofs.send.Statement.{statement}
-use Rattle.board.proofs.send.Tie as tie
-use Rattle.board.proofs.send.Reads as reads
-use Rattle.board.proofs.send.Lts as lts
+use Rattle.step_transfers.proofs.send.Statement.{statement}
+use Rattle.step_transfers.proofs.send.Tie as tie
+use Rattle.step_transfers.proofs.send.Reads as reads
+use Rattle.step_transfers.proofs.send.Lts as lts
 use Rattle.registers.proofs.write_register.Reads as write-register-reads
 use Rattle.spi.proofs.acknowledged.Reads as acknowledged-reads
 

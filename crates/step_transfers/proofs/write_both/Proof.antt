@@ -4,11 +4,11 @@ use Rattle.chip.specs.Sound.{soundChip}
 use Rattle.model.specs.Call.{runTo}
 use Rattle.rules.proofs.Sound.{stays-sound}
 use borrow.Author.Needs.{needs}
-use Rattle.board.proofs.write_both.Statement.{statement}
-use Rattle.board.proofs.write_both.Tie as tie
-use Rattle.board.proofs.write_both.Reads as reads
-use Rattle.board.proofs.write_both.Lts as lts
-use Rattle.board.proofs.send.Reads as send-reads
+use Rattle.step_transfers.proofs.write_both.Statement.{statement}
+use Rattle.step_transfers.proofs.write_both.Tie as tie
+use Rattle.step_transfers.proofs.write_both.Reads as reads
+use Rattle.step_transfers.proofs.write_both.Lts as lts
+use Rattle.step_transfers.proofs.send.Reads as send-reads
 use Rattle.firmware.proofs.clrtogs.Reads as clrtogs-reads
 use Rattle.firmware.proofs.epstalls.Reads as epstalls-reads
 

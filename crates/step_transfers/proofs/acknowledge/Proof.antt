@@ -1,11 +1,11 @@
 use mathlib.Core.Path.{_∙_}
 use Rattle.spi.proofs.Call.{acknowledge-part}
-use Rattle.board.proofs.Sends.{sends-command}
+use Rattle.step_transfers.proofs.Sends.{sends-command}
 use borrow.Author.Needs.{needs}
-use Rattle.board.proofs.acknowledge.Statement.{statement}
-use Rattle.board.proofs.acknowledge.Tie as tie
-use Rattle.board.proofs.acknowledge.Reads as reads
-use Rattle.board.proofs.acknowledge.Lts as lts
+use Rattle.step_transfers.proofs.acknowledge.Statement.{statement}
+use Rattle.step_transfers.proofs.acknowledge.Tie as tie
+use Rattle.step_transfers.proofs.acknowledge.Reads as reads
+use Rattle.step_transfers.proofs.acknowledge.Lts as lts
 use Rattle.spi.proofs.acknowledged.Reads as acknowledged-reads
 
 acknowledged-requires : tie.Need-acknowledged-requires

@@ -15,7 +15,7 @@ use Rattle.model.specs.Call.{checked, checkedTo, checkedAnswer, callTo, answerO
 use Rattle.model.proofs.Loop.{burst-length}
 use Rattle.rules.specs.Spi.{max3420eSpi}
 use Rattle.rules.specs.Event.{max3420e}
-use Rattle.board.specs.Step.{sends}
+use Rattle.step_transfers.specs.Step.{sends}
 
 module _ (c : Chip) (sound : soundChip c ≡ true) where
   pub sends-accepted : (bs : List ℕ) → 0 < length bs → length bs ≤ 4096 → checked max3420e c (sends bs) ≡ Accepted

@@ -8,13 +8,13 @@ use lib.Seq.{length-take-le}
 use denote.Ref.{now}
 use Rattle.model.specs.Spi.{burstTo}
 use Rattle.rules.specs.Spi.{max3420eSpi}
-use Rattle.board.proofs.Sends.{sends-to}
+use Rattle.step_transfers.proofs.Sends.{sends-to}
 use borrow.Author.Needs.{needs}
-use Rattle.board.proofs.fill.Statement.{statement}
-use Rattle.board.proofs.fill.Tie as tie
-use Rattle.board.proofs.fill.Reads as reads
-use Rattle.board.proofs.fill.Lts as lts
-use Rattle.board.proofs.message_of.Reads as message-of-reads
+use Rattle.step_transfers.proofs.fill.Statement.{statement}
+use Rattle.step_transfers.proofs.fill.Tie as tie
+use Rattle.step_transfers.proofs.fill.Reads as reads
+use Rattle.step_transfers.proofs.fill.Lts as lts
+use Rattle.step_transfers.proofs.message_of.Reads as message-of-reads
 use Rattle.bursts.proofs.write_ep0.Reads as write-ep0-reads
 
 message-of-requires : tie.Need-message-of-requires

@@ -3,12 +3,12 @@ use Prim.Native.Nat.{ℕ, _-_}
 use lib.ListN.{take}
 use native.Mathlib.Omega.{arith}
 use denote.Ref.{now}
-use Rattle.board.proofs.Message.{message-is}
+use Rattle.step_transfers.proofs.Message.{message-is}
 use borrow.Author.Needs.{needs}
-use Rattle.board.proofs.message_of.Statement.{statement}
-use Rattle.board.proofs.message_of.Tie as tie
-use Rattle.board.proofs.message_of.Reads as reads
-use Rattle.board.proofs.message_of.Lts as lts
+use Rattle.step_transfers.proofs.message_of.Statement.{statement}
+use Rattle.step_transfers.proofs.message_of.Tie as tie
+use Rattle.step_transfers.proofs.message_of.Reads as reads
+use Rattle.step_transfers.proofs.message_of.Lts as lts
 use Rattle.bytes.proofs.copy.Reads as copy-reads
 
 array-write-message : tie.Need-array-write-message

@@ -4,12 +4,12 @@ use Rattle.chip.specs.Sound.{soundChip}
 use Rattle.model.specs.Call.{runTo}
 use Rattle.rules.proofs.Sound.{stays-sound}
 use borrow.Author.Needs.{needs}
-use Rattle.board.proofs.send_data.Statement.{statement}
-use Rattle.board.proofs.send_data.Tie as tie
-use Rattle.board.proofs.send_data.Reads as reads
-use Rattle.board.proofs.send_data.Lts as lts
-use Rattle.board.proofs.fill.Reads as fill-reads
-use Rattle.board.proofs.send.Reads as send-reads
+use Rattle.step_transfers.proofs.send_data.Statement.{statement}
+use Rattle.step_transfers.proofs.send_data.Tie as tie
+use Rattle.step_transfers.proofs.send_data.Reads as reads
+use Rattle.step_transfers.proofs.send_data.Lts as lts
+use Rattle.step_transfers.proofs.fill.Reads as fill-reads
+use Rattle.step_transfers.proofs.send.Reads as send-reads
 
 fill-requires : tie.Need-fill-requires
 fill-requires c κs = search needs
