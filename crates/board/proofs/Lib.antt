@@ -1,4 +1,1 @@
-pub mod Theorem
-pub mod Enumeration
-pub mod Made
 pub mod Numbers

@@ -1,4 +1,4 @@
--- The numbers of a step's reply are those of the refusal, or of the firmware's reply; the firmware never refuses a step.
+-- The answer of a step, part by part; its numbers are those of the refusal, or of the firmware's reply, which never refuses a step.
 use mathlib.Core.Path.{_≡_, refl, sym, ap, _∙_}
 use mathlib.Core.Bool.{Bool, true, false, not, cond}
 use mathlib.Core.List.{List, [], _∷_}

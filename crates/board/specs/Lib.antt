@@ -1,3 +1,1 @@
 pub mod Board
-pub mod Enumeration
-pub mod Made

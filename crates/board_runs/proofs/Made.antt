@@ -9,7 +9,7 @@ use Rattle.rules.specs.Event.{max3420e}
 use Rattle.rules.specs.Ledger.{Ledger, blank, max3420eLedger}
 use Rattle.rules.specs.Demand.{Demand3}
 use Rattle.rules.proofs.Theorem.{demand3}
-use Rattle.board.specs.Made.{madeTo, madeRunTo, madeHistory}
+use Rattle.board_runs.specs.Made.{madeTo, madeRunTo, madeHistory}
 
 -- the record that a call returns is the model's
 pub made-is : (c : Chip) (k : Call) → callTo max3420e c k ≡ madeTo c k

@@ -8,8 +8,8 @@ use Rattle.firmware.specs.Answer.{handled, servedOf}
 use Rattle.model.specs.Spi.{burstTo, burstOf}
 use Rattle.model.specs.Call.{answerOf, callTo, runTo}
 use Rattle.step_transfers.specs.Step.{setupAnswer, stepCalls}
 use Rattle.board.specs.Board.{boardTo}
-use Rattle.board.specs.Enumeration.{played, lessons}
+use Rattle.board_runs.specs.Enumeration.{played, lessons}
 
 pub lessons-hold : map played lessons ≡ lessons
 unfolding powerOnChip soundChip burstTo burstOf answerOf callTo runTo handled servedOf decisionOf setupAnswer stepCalls boardTo
