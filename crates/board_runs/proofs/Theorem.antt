@@ -29,7 +29,8 @@ use Rattle.bus.specs.EventCall.{eventReplyOf}
 use Rattle.board.specs.declared.Board.{Board}
 use Rattle.step_transfers.specs.Step.{setupRead, served, sudav}
 use Rattle.board.specs.Board.{powerOnBoard, soundBoard, BoardCall, onChip, steps, boardAnswer, startsAnew, isDone, firmwareAt}
-use Rattle.board.specs.Board.{stepChecked, stepFirmware, firmwareTo, chipCalls, boardTo, boardRunTo, allChipCalls}
+use Rattle.board.specs.Board.{stepChecked, stepFirmware, firmwareTo, chipCalls, boardTo}
+use Rattle.board_runs.specs.Runs.{boardRunTo, allChipCalls}
 
 -- ---- a run of board calls makes the run of its chip calls
 
