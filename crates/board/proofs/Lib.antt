@@ -1,7 +1,1 @@
-pub mod Setup
-pub mod Sends
-pub mod Theorem
-pub mod Enumeration
-pub mod Message
-pub mod Made
 pub mod Numbers

@@ -1,4 +1,4 @@
--- The numbers of a step's reply are those of the refusal, or of the firmware's reply; the firmware never refuses a step.
+-- The answer of a step, part by part; its numbers are those of the refusal, or of the firmware's reply, which never refuses a step.
 use mathlib.Core.Path.{_≡_, refl, sym, ap, _∙_}
 use mathlib.Core.Bool.{Bool, true, false, not, cond}
 use mathlib.Core.List.{List, [], _∷_}
@@ -7,7 +7,10 @@ use lib.Dec.{ltb}
 use borrow.Author.Tests.{not-false}
 use Rattle.bits.proofs.Cases.{and-true}
 use Rattle.refusal.specs.declared.Refusal.the-variants.{Unsound, ShortBuffer}
+use Rattle.chip.specs.declared.Chip.{Chip}
+use Rattle.chip.specs.Pin.{pinOf}
 use Rattle.chip.specs.Sound.{soundChip}
+use Rattle.request.specs.declared.Firmware.{Firmware}
 use Rattle.request.specs.Record.{soundFirmware}
 use Rattle.firmware.specs.declared.RequestReply.{RequestReply}
 use Rattle.firmware.specs.declared.RequestReply.the-variants as request
@@ -20,10 +23,10 @@ use Rattle.board.specs.declared.Board.{Board}
 use Rattle.board.specs.declared.BoardStep.{BoardStep}
 use Rattle.board.specs.declared.StepReply.{StepReply}
 use Rattle.board.specs.declared.StepReply.the-variants as step
-use Rattle.board.specs.Step.{sudav, served}
+use Rattle.step_transfers.specs.Step.{sudav, served}
 use Rattle.board.specs.Board.{soundBoard, stepChecked, repliedStep, stepReplyOf, stepRefusal, stepKind, stepCount}
-use Rattle.board.specs.Board.{steppedKind, steppedCount, boardStep}
-use Rattle.board.proofs.Setup.{firmware-accepts}
+use Rattle.board.specs.Board.{steppedWith, steppedKind, steppedCount, boardStep}
+use Rattle.step_transfers.proofs.Setup.{firmware-accepts}
 
 -- a number of the step's reply is that of the firmware's
 replied : (n : StepReply → ℕ) (m : RequestReply → ℕ) (t : Bool) (r : RequestReply) → n (repliedStep r) ≡ m r → n step.Idle ≡ 0
@@ -87,3 +90,9 @@ module _ (b : Board) where
         ap (λ (x : BoardStep). stepKind (x .reply)) (e .0) ∙ n .1,
         ap (λ (x : BoardStep). stepCount (x .reply)) (e .0) ∙ n .2,
       )
+
+-- ---- the answer of a step, part by part
+
+pub stepped-is : {b : Board} {r r′ : StepReply} {chip : Chip} {f : Firmware} → b .chip ≡ chip → b .firmware ≡ f → r ≡ r′
+    → steppedWith b r ≡ record { board = record { chip = chip; firmware = f }; reply = r′; pin = pinOf (chip .registers) }
+stepped-is p q e = λ i. record { board = record { chip = p i; firmware = q i }; reply = e i; pin = pinOf (p i .registers) }

@@ -1,6 +1,6 @@
 -- Calls to the board: the chip calls that each makes, the records after it, and its answer.
 use mathlib.Core.Bool.{Bool, true, false, not, cond, _&&_, _||_}
-use mathlib.Core.List.{List, [], _∷_, _++_}
+use mathlib.Core.List.{List, [], _∷_}
 use Prim.Native.Nat.{ℕ}
 use lib.Dec.{eqb, ltb}
 use Rattle.bits.specs.Bit.{has}
@@ -31,7 +31,7 @@ use Rattle.board.specs.declared.BoardEvent.{BoardEvent}
 use Rattle.board.specs.declared.BoardStep.{BoardStep}
 use Rattle.board.specs.declared.StepReply.{StepReply}
 use Rattle.board.specs.declared.StepReply.the-variants as step
-use Rattle.board.specs.Step.{setupRead, served, sudav, stepCalls}
+use Rattle.step_transfers.specs.Step.{setupRead, served, sudav, stepCalls}
 
 abbrev pub powerOnBoard : Board
 powerOnBoard = record { chip = powerOnChip; firmware = powerOnFirmware }
@@ -113,17 +113,6 @@ firmwareTo b (steps room) = stepFirmware b (stepChecked b room)
 
 unfoldable pub boardTo : Board → BoardCall → Board
 boardTo b k = record { chip = runTo max3420e (b .chip) (chipCalls b k); firmware = firmwareTo b k }
-
--- ---- a list of calls
-
-unfoldable pub boardRunTo : Board → List BoardCall → Board
-boardRunTo b [] = b
-boardRunTo b (k ∷ ks) = boardRunTo (boardTo b k) ks
-
--- and all chip calls that it makes
-unfoldable pub allChipCalls : Board → List BoardCall → List Call
-allChipCalls b [] = []
-allChipCalls b (k ∷ ks) = chipCalls b k ++ allChipCalls (boardTo b k) ks
 
 -- ---- numbers of the step's reply
 

@@ -1,4 +1,1 @@
-pub mod Step
 pub mod Board
-pub mod Enumeration
-pub mod Made

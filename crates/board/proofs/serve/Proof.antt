@@ -12,15 +12,15 @@ use Rattle.firmware.proofs.Laws.{answer-fits}
 use Rattle.model.specs.Call.{Call, runTo}
 use Rattle.rules.specs.Event.{max3420e}
 use Rattle.rules.proofs.Sound.{stays-sound}
-use Rattle.board.specs.Step.{clearsSudav, readsSetup, setupRead, serves}
-use Rattle.board.proofs.Setup.{setup-length, part-is, handled-lent, serves-lent}
+use Rattle.step_transfers.specs.Step.{clearsSudav, readsSetup, setupRead, serves}
+use Rattle.step_transfers.proofs.Setup.{setup-length, part-is, handled-lent, serves-lent}
 use borrow.Author.Needs.{needs}
 use Rattle.board.proofs.serve.Statement.{statement}
 use Rattle.board.proofs.serve.Tie as tie
 use Rattle.board.proofs.serve.Reads as reads
 use Rattle.board.proofs.serve.Lts as lts
-use Rattle.board.proofs.read_setup.Reads as read-setup-reads
-use Rattle.board.proofs.serve_reply.Reads as serve-reply-reads
+use Rattle.step_transfers.proofs.read_setup.Reads as read-setup-reads
+use Rattle.step_transfers.proofs.serve_reply.Reads as serve-reply-reads
 use Rattle.firmware.proofs.answer.Reads as answer-reads
 
 read-setup-requires : tie.Need-read-setup-requires

@@ -7,10 +7,9 @@ use Rattle.bits.proofs.Cases.{and-true}
 use Rattle.chip.specs.Sound.{soundChip}
 use Rattle.request.specs.Record.{soundFirmware}
 use Rattle.model.specs.Call.{runTo}
-use Rattle.board.specs.Step.{stepCalls}
+use Rattle.step_transfers.specs.Step.{stepCalls}
 use Rattle.board.specs.Board.{boardTo}
-use Rattle.board.proofs.Setup.{stepped-is}
-use Rattle.board.proofs.Numbers.{step-told}
+use Rattle.board.proofs.Numbers.{stepped-is, step-told}
 use borrow.Author.Needs.{needs}
 use Rattle.board.proofs.step.Statement.{statement}
 use Rattle.board.proofs.step.Tie as tie

@@ -6,15 +6,12 @@ use Rattle.board.proofs.Board.is_sound.Lts as lts
 use Rattle.chip.proofs.Chip.is_sound.Reads as Chip-is-sound-reads
 use Rattle.request.proofs.Firmware.is_sound.Reads as Firmware-is-sound-reads
 
--- src/lib.rt:69:9
 is-sound-requires : tie.Need-is-sound-requires
 is-sound-requires c κs = search needs
 
--- src/lib.rt:69:24
 is-sound-requires-2 : tie.Need-is-sound-requires-2
 is-sound-requires-2 c κs = search needs
 
--- src/lib.rt:64:5
 returns : tie.Need-returns
 returns c = cc
 

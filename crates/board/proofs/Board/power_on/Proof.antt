@@ -6,15 +6,12 @@ use Rattle.board.proofs.Board.power_on.Lts as lts
 use Rattle.chip.proofs.Chip.power_on.Reads as Chip-power-on-reads
 use Rattle.request.proofs.Firmware.power_on.Reads as Firmware-power-on-reads
 
--- src/lib.rt:59:19
 power-on-requires : tie.Need-power-on-requires
 power-on-requires c κs = search needs
 
--- src/lib.rt:60:23
 power-on-requires-2 : tie.Need-power-on-requires-2
 power-on-requires-2 c κs = search needs
 
--- src/lib.rt:55:5
 returns : tie.Need-returns
 returns c = cc
 
