@@ -1,10 +1,7 @@
+-- `Board::power_on` meets its promise: both records are what their own functions give.
 use borrow.Author.Needs.{needs}
 use Rattle.board.proofs.Board.power_on.Statement.{statement}
 use Rattle.board.proofs.Board.power_on.Tie as tie
-use Rattle.board.proofs.Board.power_on.Reads as reads
-use Rattle.board.proofs.Board.power_on.Lts as lts
-use Rattle.chip.proofs.Chip.power_on.Reads as Chip-power-on-reads
-use Rattle.request.proofs.Firmware.power_on.Reads as Firmware-power-on-reads
 
 power-on-requires : tie.Need-power-on-requires
 power-on-requires c κs = search needs
