@@ -1,3 +1,4 @@
+-- `event` meets its promise: the chip's event, and the firmware's record put back where it starts anew.
 use mathlib.Core.Bool.{and-false}
 use Rattle.board.specs.Board.{startsAnew}
 use mathlib.Core.Path.{_≡_}
@@ -11,12 +12,6 @@ use Rattle.board.specs.Board.{boardTo, firmwareFor}
 use borrow.Author.Needs.{needs}
 use Rattle.board.proofs.event.Statement.{statement}
 use Rattle.board.proofs.event.Tie as tie
-use Rattle.board.proofs.event.Reads as reads
-use Rattle.board.proofs.event.Lts as lts
-use Rattle.board.proofs.firmware_at.Reads as firmware-at-reads
-use Rattle.bus.proofs.event.Reads as event-reads
-use Rattle.chip.proofs.Registers.pin.Reads as pin-reads
-use Rattle.request.proofs.Firmware.is_sound.Reads as is-sound-reads
 
 is-sound-requires : tie.Need-is-sound-requires
 is-sound-requires c κs = search needs

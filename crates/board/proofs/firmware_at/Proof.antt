@@ -1,3 +1,4 @@
+-- `firmware_at` meets its promise: its test is the definition's.
 use mathlib.Core.Path.{_≡_, sym, ap, _∙_}
 use mathlib.Core.Bool.{Bool, true, false, cond, _&&_}
 use Rattle.request.specs.declared.Firmware.{Firmware}
@@ -8,10 +9,6 @@ use Rattle.board.specs.Board.{isDone, startsAnew, firmwareFor}
 use borrow.Author.Needs.{needs}
 use Rattle.board.proofs.firmware_at.Statement.{statement}
 use Rattle.board.proofs.firmware_at.Tie as tie
-use Rattle.board.proofs.firmware_at.Reads as reads
-use Rattle.board.proofs.firmware_at.Lts as lts
-use Rattle.board.proofs.is_done.Reads as is-done-reads
-use Rattle.request.proofs.Firmware.power_on.Reads as power-on-reads
 
 -- the test of the code is the definition's
 told : (f : Firmware) (e : Event) (a : EventReply) (t : Bool) {d : Bool} → d ≡ isDone a → (startsAnew e && d) ≡ t

@@ -1,8 +1,7 @@
+-- `reply_of` meets its promise: a reply for each of the firmware's.
 use borrow.Author.Needs.{needs}
 use Rattle.board.proofs.reply_of.Statement.{statement}
 use Rattle.board.proofs.reply_of.Tie as tie
-use Rattle.board.proofs.reply_of.Reads as reads
-use Rattle.board.proofs.reply_of.Lts as lts
 
 enum-known-reply : tie.Need-enum-known-reply
 enum-known-reply c = search needs

@@ -1,3 +1,4 @@
+-- `serve` meets its promise: the setup bytes by R4, the firmware's answer to them, and the transfers that serve it.
 use mathlib.Core.Path.{_≡_, sym, ap, ap₂, _∙_, subst}
 use mathlib.Core.List.{List, [], _∷_}
 use Prim.Native.Nat.{ℕ, _≤_}
@@ -17,11 +18,6 @@ use Rattle.step_transfers.proofs.Setup.{setup-length, part-is, handled-lent, se
 use borrow.Author.Needs.{needs}
 use Rattle.board.proofs.serve.Statement.{statement}
 use Rattle.board.proofs.serve.Tie as tie
-use Rattle.board.proofs.serve.Reads as reads
-use Rattle.board.proofs.serve.Lts as lts
-use Rattle.step_transfers.proofs.read_setup.Reads as read-setup-reads
-use Rattle.step_transfers.proofs.serve_reply.Reads as serve-reply-reads
-use Rattle.firmware.proofs.answer.Reads as answer-reads
 
 read-setup-requires : tie.Need-read-setup-requires
 read-setup-requires c κs = search needs

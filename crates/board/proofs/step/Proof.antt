@@ -1,3 +1,4 @@
+-- `step` meets its promise: its tests are the definition's, and `serve` makes the rest.
 use borrow.Author.Tests.{not-false}
 use mathlib.Core.Path.{refl, sym, _∙_}
 use lib.ListN.{length}
@@ -13,12 +14,6 @@ use Rattle.board.proofs.Numbers.{stepped-is, step-told}
 use borrow.Author.Needs.{needs}
 use Rattle.board.proofs.step.Statement.{statement}
 use Rattle.board.proofs.step.Tie as tie
-use Rattle.board.proofs.step.Reads as reads
-use Rattle.board.proofs.step.Lts as lts
-use Rattle.board.proofs.Board.is_sound.Reads as is-sound-reads
-use Rattle.board.proofs.reply_of.Reads as reply-of-reads
-use Rattle.board.proofs.serve.Reads as serve-reads
-use Rattle.board.proofs.stepped.Reads as stepped-reads
 
 is-sound-requires : tie.Need-is-sound-requires
 is-sound-requires c κs = search needs

@@ -1,9 +1,7 @@
+-- `stepped` meets its promise: the pin is that of the record handed back.
 use borrow.Author.Needs.{needs}
 use Rattle.board.proofs.stepped.Statement.{statement}
 use Rattle.board.proofs.stepped.Tie as tie
-use Rattle.board.proofs.stepped.Reads as reads
-use Rattle.board.proofs.stepped.Lts as lts
-use Rattle.chip.proofs.Registers.pin.Reads as pin-reads
 
 pin-requires : tie.Need-pin-requires
 pin-requires c κs = search needs

@@ -1,3 +1,4 @@
+-- `transfer` meets its promise: the chip's transfer, unless the firmware's record is not sound.
 use mathlib.Core.Path.{_≡_}
 use mathlib.Core.Bool.{true, false}
 use borrow.Author.Tests.{not-true, not-false}
@@ -9,11 +10,6 @@ use Rattle.board.specs.Board.{boardTo}
 use borrow.Author.Needs.{needs}
 use Rattle.board.proofs.transfer.Statement.{statement}
 use Rattle.board.proofs.transfer.Tie as tie
-use Rattle.board.proofs.transfer.Reads as reads
-use Rattle.board.proofs.transfer.Lts as lts
-use Rattle.chip.proofs.Registers.pin.Reads as pin-reads
-use Rattle.request.proofs.Firmware.is_sound.Reads as is-sound-reads
-use Rattle.spi.proofs.transfer.Reads as transfer-reads
 
 is-sound-requires : tie.Need-is-sound-requires
 is-sound-requires c κs = search needs

@@ -1,3 +1,4 @@
+-- `request_numbers` meets its promise: the numbers of each reply.
 use borrow.Author.Needs.{needs}
 use Rattle.flat.proofs.request_numbers.Statement.{statement}
 use Rattle.flat.proofs.request_numbers.Tie as tie

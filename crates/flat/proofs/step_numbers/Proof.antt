@@ -1,3 +1,4 @@
+-- `step_numbers` meets its promise: the numbers of each reply.
 use borrow.Author.Needs.{needs}
 use Rattle.flat.proofs.step_numbers.Statement.{statement}
 use Rattle.flat.proofs.step_numbers.Tie as tie

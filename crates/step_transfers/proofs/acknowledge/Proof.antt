@@ -1,12 +1,10 @@
+-- `acknowledge` meets its promise: a transfer of the command byte alone (`sends-to`).
 use mathlib.Core.Path.{_∙_}
 use Rattle.spi.proofs.Call.{acknowledge-part}
 use Rattle.step_transfers.proofs.Sends.{sends-command}
 use borrow.Author.Needs.{needs}
 use Rattle.step_transfers.proofs.acknowledge.Statement.{statement}
 use Rattle.step_transfers.proofs.acknowledge.Tie as tie
-use Rattle.step_transfers.proofs.acknowledge.Reads as reads
-use Rattle.step_transfers.proofs.acknowledge.Lts as lts
-use Rattle.spi.proofs.acknowledged.Reads as acknowledged-reads
 
 acknowledged-requires : tie.Need-acknowledged-requires
 acknowledged-requires c κs = search needs

@@ -1,3 +1,4 @@
+-- `fill` meets its promise: the burst on endpoint 0 is the transfer's, which a sound record does not refuse.
 use mathlib.Core.Path.{_≡_, refl, sym, ap, _∙_}
 use mathlib.Core.Bool.{true}
 use mathlib.Core.List.{List, _∷_}
@@ -12,10 +13,6 @@ use Rattle.step_transfers.proofs.Sends.{sends-to}
 use borrow.Author.Needs.{needs}
 use Rattle.step_transfers.proofs.fill.Statement.{statement}
 use Rattle.step_transfers.proofs.fill.Tie as tie
-use Rattle.step_transfers.proofs.fill.Reads as reads
-use Rattle.step_transfers.proofs.fill.Lts as lts
-use Rattle.step_transfers.proofs.message_of.Reads as message-of-reads
-use Rattle.bursts.proofs.write_ep0.Reads as write-ep0-reads
 
 message-of-requires : tie.Need-message-of-requires
 message-of-requires c κs = search needs

@@ -1,3 +1,4 @@
+-- `message_of` meets its promise: the command byte, then the bytes copied.
 use mathlib.Core.Path.{_≡_, ap}
 use Prim.Native.Nat.{ℕ, _-_}
 use lib.ListN.{take}
@@ -7,9 +8,6 @@ use Rattle.step_transfers.proofs.Message.{message-is}
 use borrow.Author.Needs.{needs}
 use Rattle.step_transfers.proofs.message_of.Statement.{statement}
 use Rattle.step_transfers.proofs.message_of.Tie as tie
-use Rattle.step_transfers.proofs.message_of.Reads as reads
-use Rattle.step_transfers.proofs.message_of.Lts as lts
-use Rattle.bytes.proofs.copy.Reads as copy-reads
 
 array-write-message : tie.Need-array-write-message
 array-write-message c = search needs

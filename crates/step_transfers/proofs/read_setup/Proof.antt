@@ -1,3 +1,4 @@
+-- `read_setup` meets its promise: the burst on endpoint 0 is the transfer's, and its reply the setup bytes.
 use mathlib.Core.Path.{sym, ap, _∙_}
 use mathlib.Core.List.{[], _∷_}
 use native.Mathlib.Omega.{arith}
@@ -10,10 +11,6 @@ use Rattle.step_transfers.proofs.Sends.{sends-to, sends-reply}
 use borrow.Author.Needs.{needs}
 use Rattle.step_transfers.proofs.read_setup.Statement.{statement}
 use Rattle.step_transfers.proofs.read_setup.Tie as tie
-use Rattle.step_transfers.proofs.read_setup.Reads as reads
-use Rattle.step_transfers.proofs.read_setup.Lts as lts
-use Rattle.step_transfers.proofs.send.Reads as send-reads
-use Rattle.bursts.proofs.read_setup.Reads as read-setup-reads
 
 send-requires : tie.Need-send-requires
 send-requires c κs = search needs

@@ -1,3 +1,4 @@
+-- `send` meets its promise: a transfer of one data byte, which a sound record does not refuse (`sends-to`).
 use mathlib.Core.Path.{ap, _∙_}
 use Rattle.chip.specs.declared.Chip.{Chip}
 use Rattle.model.specs.Spi.{commandRegister, writeTo}
@@ -7,10 +8,6 @@ use Rattle.step_transfers.proofs.Sends.{sends-write}
 use borrow.Author.Needs.{needs}
 use Rattle.step_transfers.proofs.send.Statement.{statement}
 use Rattle.step_transfers.proofs.send.Tie as tie
-use Rattle.step_transfers.proofs.send.Reads as reads
-use Rattle.step_transfers.proofs.send.Lts as lts
-use Rattle.registers.proofs.write_register.Reads as write-register-reads
-use Rattle.spi.proofs.acknowledged.Reads as acknowledged-reads
 
 acknowledged-requires : tie.Need-acknowledged-requires
 acknowledged-requires c κs = search needs

@@ -1,3 +1,4 @@
+-- `send_data` meets its promise: bytes to R0, then `2B n`.
 use mathlib.Core.Path.{refl, ap, _∙_}
 use mathlib.Core.List.{[], _∷_}
 use Rattle.chip.specs.Sound.{soundChip}
@@ -6,10 +7,6 @@ use Rattle.rules.proofs.Sound.{stays-sound}
 use borrow.Author.Needs.{needs}
 use Rattle.step_transfers.proofs.send_data.Statement.{statement}
 use Rattle.step_transfers.proofs.send_data.Tie as tie
-use Rattle.step_transfers.proofs.send_data.Reads as reads
-use Rattle.step_transfers.proofs.send_data.Lts as lts
-use Rattle.step_transfers.proofs.fill.Reads as fill-reads
-use Rattle.step_transfers.proofs.send.Reads as send-reads
 
 fill-requires : tie.Need-fill-requires
 fill-requires c κs = search needs

@@ -1,3 +1,4 @@
+-- `serve_reply` meets its promise: the transfers of each reply.
 use mathlib.Core.Path.{refl, sym, ap, _∙_}
 use mathlib.Core.List.{[], _∷_}
 use Rattle.chip.specs.declared.Chip.{Chip}
@@ -10,13 +11,6 @@ use Rattle.step_transfers.specs.Step.{sends, writesEndpoints}
 use borrow.Author.Needs.{needs}
 use Rattle.step_transfers.proofs.serve_reply.Statement.{statement}
 use Rattle.step_transfers.proofs.serve_reply.Tie as tie
-use Rattle.step_transfers.proofs.serve_reply.Reads as reads
-use Rattle.step_transfers.proofs.serve_reply.Lts as lts
-use Rattle.step_transfers.proofs.acknowledge.Reads as acknowledge-reads
-use Rattle.step_transfers.proofs.send.Reads as send-reads
-use Rattle.step_transfers.proofs.send_data.Reads as send-data-reads
-use Rattle.step_transfers.proofs.stall_byte.Reads as stall-byte-reads
-use Rattle.step_transfers.proofs.write_endpoints.Reads as write-endpoints-reads
 
 enum-known-reply : tie.Need-enum-known-reply
 enum-known-reply c = search needs

@@ -1,3 +1,4 @@
+-- `write_both` meets its promise: two sends in a row.
 use mathlib.Core.Path.{refl, ap, _∙_}
 use mathlib.Core.List.{[], _∷_}
 use Rattle.chip.specs.Sound.{soundChip}
@@ -6,11 +7,6 @@ use Rattle.rules.proofs.Sound.{stays-sound}
 use borrow.Author.Needs.{needs}
 use Rattle.step_transfers.proofs.write_both.Statement.{statement}
 use Rattle.step_transfers.proofs.write_both.Tie as tie
-use Rattle.step_transfers.proofs.write_both.Reads as reads
-use Rattle.step_transfers.proofs.write_both.Lts as lts
-use Rattle.step_transfers.proofs.send.Reads as send-reads
-use Rattle.firmware.proofs.clrtogs.Reads as clrtogs-reads
-use Rattle.firmware.proofs.epstalls.Reads as epstalls-reads
 
 epstalls-requires : tie.Need-epstalls-requires
 epstalls-requires c κs = search needs

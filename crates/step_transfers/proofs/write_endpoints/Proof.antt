@@ -1,11 +1,9 @@
+-- `write_endpoints` meets its promise: nothing, or both registers.
 use mathlib.Core.Path.{refl}
 use Rattle.model.specs.Call.{runTo}
 use borrow.Author.Needs.{needs}
 use Rattle.step_transfers.proofs.write_endpoints.Statement.{statement}
 use Rattle.step_transfers.proofs.write_endpoints.Tie as tie
-use Rattle.step_transfers.proofs.write_endpoints.Reads as reads
-use Rattle.step_transfers.proofs.write_endpoints.Lts as lts
-use Rattle.step_transfers.proofs.write_both.Reads as write-both-reads
 
 enum-told : tie.Need-enum-told
 enum-told c = search needs

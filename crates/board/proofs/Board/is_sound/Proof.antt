@@ -1,10 +1,7 @@
+-- `Board::is_sound` meets its promise: both records' tests, joined.
 use borrow.Author.Needs.{needs}
 use Rattle.board.proofs.Board.is_sound.Statement.{statement}
 use Rattle.board.proofs.Board.is_sound.Tie as tie
-use Rattle.board.proofs.Board.is_sound.Reads as reads
-use Rattle.board.proofs.Board.is_sound.Lts as lts
-use Rattle.chip.proofs.Chip.is_sound.Reads as Chip-is-sound-reads
-use Rattle.request.proofs.Firmware.is_sound.Reads as Firmware-is-sound-reads
 
 is-sound-requires : tie.Need-is-sound-requires
 is-sound-requires c κs = search needs
