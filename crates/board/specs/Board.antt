@@ -3,24 +3,21 @@ use mathlib.Core.Bool.{Bool, true, false, not, cond, _&&_, _||_}
 use mathlib.Core.List.{List, [], _∷_}
 use Prim.Native.Nat.{ℕ}
 use lib.Dec.{eqb, ltb}
-use Rattle.bits.specs.Bit.{has}
 use Rattle.refusal.specs.Number.{refusalNumber}
-use Rattle.refusal.specs.declared.Refusal.{Refusal}
 use Rattle.refusal.specs.declared.Refusal.the-variants.{Unsound, ShortBuffer}
-use Rattle.chip.specs.declared.Chip.{Chip}
 use Rattle.chip.specs.Record.{powerOnChip}
 use Rattle.chip.specs.Sound.{soundChip}
 use Rattle.request.specs.declared.Firmware.{Firmware}
 use Rattle.request.specs.Record.{powerOnFirmware, soundFirmware}
 use Rattle.firmware.specs.declared.RequestReply.{RequestReply}
 use Rattle.firmware.specs.declared.RequestReply.the-variants as request
-use Rattle.firmware.specs.Answer.{Handled, handled, requestKind, requestCount}
+use Rattle.firmware.specs.Answer.{handled, requestKind, requestCount}
 use Rattle.model.specs.declared.Event.{Event}
 use Rattle.model.specs.declared.Checked.{Checked}
 use Rattle.model.specs.declared.Checked.the-variants.{Accepted, Refused}
 use Rattle.event_answer.specs.declared.EventReply.{EventReply}
 use Rattle.event_answer.specs.declared.EventReply.the-variants as reply
-use Rattle.model.specs.Call.{Call, transfer, event, Answer, refused, answered, check, checked, callTo, answerOf, runTo}
+use Rattle.model.specs.Call.{Call, transfer, event, Answer, refused, check, checked, answerOf, runTo}
 use Rattle.rules.specs.Event.{max3420e}
 use Rattle.board.specs.declared.Board.{Board}
 use Rattle.chip.specs.Pin.{pinOf}

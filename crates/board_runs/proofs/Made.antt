@@ -1,5 +1,5 @@
 -- Demand 3 of the code: after every list of calls of `spi::transfer` and `bus::event` from the power-on record.
-use mathlib.Core.Path.{_≡_, refl, ap, ap₂, _∙_, subst}
+use mathlib.Core.Path.{_≡_, refl, ap, _∙_, subst}
 use mathlib.Core.List.{List, [], _∷_}
 use Rattle.chip.specs.declared.Chip.{Chip}
 use Rattle.chip.specs.Record.{powerOnChip}

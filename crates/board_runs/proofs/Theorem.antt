@@ -1,20 +1,19 @@
 -- A board call is a list of chip calls, so a run of board calls is a run of the theorem's: demand 3 holds after every list of board
 -- transfers, board events and board steps, refused ones included; both records are then sound, and refusal 1 never answers a run.
 use mathlib.Core.Path.{_≡_, refl, sym, ap, _∙_, subst}
-use mathlib.Core.Bool.{Bool, true, false, not, cond, _&&_}
-use mathlib.Core.List.{List, [], _∷_, _++_}
+use mathlib.Core.Bool.{Bool, true, false, cond, _&&_}
+use mathlib.Core.List.{List, [], _∷_}
 use Prim.Native.Nat.{ℕ}
 use native.Mathlib.Omega.{arith}
 use lib.Dec.{ltb}
 use lib.ListN.{replicate}
-use Rattle.bits.proofs.Cases.{cond-elim, and-true}
-use Rattle.bits.proofs.First.{first-each, Each, none, _⨾_}
+use Rattle.bits.proofs.Cases.{cond-elim}
 use Rattle.refusal.specs.declared.Refusal.the-variants.{Unsound, ShortBuffer}
 use Rattle.chip.specs.declared.Chip.{Chip}
 use Rattle.chip.specs.Record.{powerOnChip}
 use Rattle.chip.specs.Sound.{soundChip}
 use Rattle.request.specs.declared.Firmware.{Firmware}
-use Rattle.request.specs.Record.{powerOnFirmware, soundFirmware}
+use Rattle.request.specs.Record.{soundFirmware}
 use Rattle.firmware.proofs.Laws.{answer-sound}
 use Rattle.model.specs.declared.Checked.{Checked}
 use Rattle.model.specs.declared.Checked.the-variants.{Accepted, Refused}
@@ -27,7 +26,7 @@ use Rattle.rules.specs.Demand.{Demand3}
 use Rattle.rules.proofs.Theorem.{demand3, reached-sound, reached-accepted}
 use Rattle.bus.specs.EventCall.{eventReplyOf}
 use Rattle.board.specs.declared.Board.{Board}
-use Rattle.step_transfers.specs.Step.{setupRead, served, sudav}
+use Rattle.step_transfers.specs.Step.{setupRead, sudav}
 use Rattle.board.specs.Board.{powerOnBoard, soundBoard, BoardCall, onChip, steps, boardAnswer, startsAnew, isDone, firmwareAt}
 use Rattle.board.specs.Board.{stepChecked, stepFirmware, firmwareTo, chipCalls, boardTo}
 use Rattle.board_runs.specs.Runs.{boardRunTo, allChipCalls}

@@ -1,12 +1,11 @@
 -- Whole lessons on the board, each a list of board calls with its answers, from the power-on records of chip and firmware; worked out
 -- by hand from document 01. All numbers in hex.
-use mathlib.Core.Bool.{Bool, true, false}
+use mathlib.Core.Bool.{true, false}
 use mathlib.Core.List.{List, [], _∷_, _++_}
 use Prim.Native.Nat.{ℕ}
 use lib.ListN.{length, take, replicate, getD}
 use Rattle.descriptor.specs.Table.{device, configuration, report, strings}
-use Rattle.model.specs.declared.Event.{Event}
-use Rattle.model.specs.Reply.{Reply, transferred, done, silence, ack, nak, stall, sent}
+use Rattle.model.specs.Reply.{Reply, transferred, done, silence, ack, stall, sent}
 use Rattle.model.specs.Call.{Call, transfer, event, Answer, answered}
 use Rattle.board.specs.declared.Board.{Board}
 use Rattle.board.specs.declared.StepReply.{StepReply}

@@ -1,9 +1,8 @@
 -- A list of calls as a program makes them: `spi::transfer` and `bus::event`, each given the record that the one before returned. What
 -- each hands back is the answer that its promise names.
 use mathlib.Core.List.{List, [], _∷_}
-use Prim.Native.Nat.{ℕ}
 use Rattle.chip.specs.declared.Chip.{Chip}
-use Rattle.model.specs.Call.{Call, transfer, event, Answer, answerOf, Entry}
+use Rattle.model.specs.Call.{Call, transfer, event, answerOf, Entry}
 use Rattle.rules.specs.Event.{max3420e}
 use Rattle.spi.specs.Transfer.{transferAnswer}
 use Rattle.bus.specs.EventCall.{eventAnswer}

@@ -1,5 +1,5 @@
 -- The answer of the public call, by the MAX3420E as a model; and what it is in numbers: refusal, PID, count.
-use mathlib.Core.Bool.{Bool, cond}
+use mathlib.Core.Bool.{cond}
 use mathlib.Core.List.{List}
 use Prim.Native.Nat.{ℕ}
 use lib.ListN.{length, getD}

@@ -1,15 +1,13 @@
 -- Soundness by its clauses, and back: a record is sound exactly if every clause of decision 29 holds of it.
 use mathlib.Core.Path.{_≡_, refl, sym, ap, _∙_}
-use mathlib.Core.Logic.{_≢_}
 use mathlib.Core.Bool.{Bool, true, false, not, Bool·beq}
 use mathlib.Core.List.{List, [], _∷_}
-use Prim.Native.Nat.{ℕ, zero, suc, _≤_, _<_}
+use Prim.Native.Nat.{ℕ, zero, suc, _≤_}
 use native.Mathlib.Omega.{arith}
 use lib.Dec.{ltb, leb}
 use lib.ListN.{length, getD, set}
 use borrow.Author.Tests.{leb-true, le-leb, not-false}
 use Rattle.bits.specs.Bit.{lacks, has}
-use Rattle.bits.specs.Clauses.{clauses}
 use Rattle.bits.specs.Flag.{isOn}
 use Rattle.bits.proofs.Cases.{clause-at, clauses-all, beq-eq, beq-refl}
 use Rattle.bits.proofs.Flag.{Flags, flags-clauses, clauses-flags}

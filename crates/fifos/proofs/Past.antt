@@ -1,5 +1,5 @@
 -- Past a packet's end there is no byte, so the test on the end may be left out.
-use mathlib.Core.Path.{_≡_, sym}
+use mathlib.Core.Path.{_≡_}
 use mathlib.Core.Bool.{cond}
 use mathlib.Core.List.{List}
 use Prim.Native.Nat.{ℕ}

@@ -1,8 +1,8 @@
 -- From a row to a byte, a transfer, a call and a list of calls: where every row of a model and of a book keeps a relation between
 -- the two, so does every run that breaks no condition. For any state, any book, any relation and any condition.
-use mathlib.Core.Path.{_≡_, refl, sym, ap, _∙_, subst}
+use mathlib.Core.Path.{_≡_, refl, ap, _∙_, subst}
 use mathlib.Core.Bool.{Bool, true, false, cond, _||_}
-use mathlib.Core.List.{List, [], _∷_, _++_}
+use mathlib.Core.List.{List, [], _∷_}
 use Prim.Native.Nat.{ℕ, _≤_}
 use native.Mathlib.Omega.{arith}
 use lib.ListN.{length}
@@ -12,8 +12,8 @@ use Rattle.model.specs.declared.Event.{Event}
 use Rattle.model.specs.declared.Checked.{Checked}
 use Rattle.model.specs.declared.Checked.the-variants.{Accepted, Refused}
 use Rattle.model.specs.Reply.{Outcome, Reply}
-use Rattle.model.specs.Spi.{commandRegister, commandWrites, commandAcknowledges, byteTo, readTo, burstTo, commandTo, transferTo}
-use Rattle.model.specs.Call.{Call, transfer, event, Answer, refused, Model, acceptedOutcome, checked, checkedTo, checkedAnswer}
+use Rattle.model.specs.Spi.{commandRegister, commandWrites, commandAcknowledges, readTo, burstTo, commandTo, transferTo}
+use Rattle.model.specs.Call.{Call, transfer, event, refused, Model, acceptedOutcome, checked, checkedTo, checkedAnswer}
 use Rattle.model.specs.Call.{callTo, answerOf, runTo, history}
 use Rattle.model.specs.Book.{Book, noteBurst, noteTransfer, noteAccepted, note, bookOf}
 use Rattle.model.specs.Condition.{Condition, always, breaksBurst, breaksTransfer, breaksAccepted, breaksChecked, breaksCall}

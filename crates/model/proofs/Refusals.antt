@@ -1,16 +1,15 @@
 -- The refusal that is given has the lowest number that applies; an accepted call has no ground against it; a sound state is never
 -- refusal 1.
 use mathlib.Core.Path.{_≡_, refl, sym, ap, _∙_}
-use mathlib.Core.Bool.{Bool, true, false, not, _&&_, _||_}
+use mathlib.Core.Bool.{Bool, true, false, not, _&&_}
 use mathlib.Core.List.{List, [], _∷_, _++_, map}
-use Prim.Native.Nat.{ℕ, zero, suc, _≤_, _<_}
+use Prim.Native.Nat.{ℕ, zero, suc, _≤_}
 use native.Mathlib.Omega.{arith}
 use lib.Dec.{eqb, ltb}
 use lib.ListN.{length}
-use borrow.Author.Tests.{eq-eqb, ltb-true, ltb-false}
-use Rattle.bits.specs.First.{firstOf}
-use Rattle.bits.proofs.Cases.{and-true, or-false, true-is-false}
-use Rattle.bits.proofs.First.{testAt, first-none, noneGives, ascending, numberAt, first-lowest, first-each, Each, none, _⨾_}
+use borrow.Author.Tests.{eq-eqb, ltb-false}
+use Rattle.bits.proofs.Cases.{or-false, true-is-false}
+use Rattle.bits.proofs.First.{testAt, first-none, noneGives, ascending, numberAt, first-lowest, first-each, Each, _⨾_}
 use Rattle.refusal.specs.declared.Refusal.{Refusal}
 use Rattle.refusal.specs.declared.Refusal.the-variants.{Unsound}
 use Rattle.model.specs.declared.Event.{Event}

@@ -6,7 +6,7 @@ use Prim.Native.Nat.{ℕ}
 use Rattle.model.specs.declared.Event.{Event}
 use Rattle.model.specs.declared.Checked.{Checked}
 use Rattle.model.specs.declared.Checked.the-variants.{Accepted, Refused}
-use Rattle.model.specs.Spi.{Spi, commandRegister, commandWrites, writeTo, commandTo}
+use Rattle.model.specs.Spi.{commandRegister, commandWrites, writeTo, commandTo}
 use Rattle.model.specs.Call.{Call, transfer, event, Model, checked, callTo}
 
 pub record Condition (R : Type 0) : Type 0 where

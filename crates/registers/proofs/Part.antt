@@ -1,7 +1,7 @@
 -- The tests of R5, R7 and R8 in one: a buffer is armed where nothing is against it.
 use mathlib.Core.Path.{_≡_, refl, sym, ap, ap₂, _∙_}
 use mathlib.Core.Bool.{Bool, true, false, cond, not, _&&_}
-use mathlib.Core.List.{List, [], _∷_}
+use mathlib.Core.List.{[], _∷_}
 use Prim.Native.Nat.{ℕ, suc}
 use lib.Dec.{ltb, leb, leb·suc-suc}
 use borrow.Author.Tests.{ltb-true, ltb-false, le-leb, lt-leb}

@@ -3,12 +3,11 @@ use mathlib.Core.Path.{_≡_, refl, ap, sym, _∙_}
 use mathlib.Core.List.{List, [], _∷_}
 use Prim.Native.Nat.{ℕ, _-_}
 use native.Mathlib.Omega.{arith}
-use lib.ListN.{getD, List·getD-eq-default}
+use lib.ListN.{List·getD-eq-default}
 use Rattle.bits.proofs.Rows.{_⨾_, none, rows-all}
 use Rattle.chip.specs.declared.Registers.{Registers}
 use Rattle.chip.specs.declared.Chip.{Chip}
 use Rattle.chip.specs.Record.{bytesOf, controlRegisters}
-use Rattle.model.specs.Reply.{Outcome}
 use Rattle.model.specs.Spi.{writeTo, readTo, readOf}
 use Rattle.rules.specs.Write.{WriteRule, ignored, writeRules}
 use Rattle.rules.specs.Read.{ReadRule, readEp0fifo, readEp1outfifo, readNothing, readSudfifo, readControl}

@@ -1,20 +1,20 @@
 -- The laws of a ring of any number n of buffers: what each operation does to the waiting packets, and that it keeps the ring
 -- fit. One buffer is the case n = 1.
 use mathlib.Core.Path.{_≡_, refl, sym, ap, _∙_}
-use mathlib.Core.Bool.{Bool, true, _&&_}
+use mathlib.Core.Bool.{Bool, true}
 use mathlib.Core.List.{List, [], _∷_, _++_}
 use Prim.Native.Nat.{ℕ, zero, suc, _+_, _-_, _*_, _%_, _≤_, _<_}
 use native.Mathlib.Nat.{add-zero, add-suc, suc-add, zero-add, mod-lt, mod-mod, mod-add-mod, mul-le-mul-right}
 use native.Mathlib.Decide.{decLt, ℕ-discrete}
 use native.Mathlib.Omega.{arith}
 use lib.Dec.{eqb, ltb, leb}
-use lib.ListN.{length, getD, set, length-set, replicate}
+use lib.ListN.{length, getD, set, length-set}
 use lib.Seq.{sets, length-sets, getD-set-same, getD-set-other, getD-append-add}
 use borrow.Author.Tests.{leb-true, ltb-true, eq-eqb, ne-eqb, lt-ltb, le-leb}
 use Rattle.bits.specs.Clauses.{clauses}
 use Rattle.bits.proofs.Cases.{cond-elim, clause-at, clauses-all}
 use Rattle.ring.specs.declared.Ring.{Ring}
-use Rattle.ring.specs.Ring.{packet, packets, queue, full, nextBuffer, oldestCount, oldestPacket, withBytes, storeByte, armNext}
+use Rattle.ring.specs.Ring.{packet, packets, queue, nextBuffer, oldestCount, oldestPacket, withBytes, storeByte, armNext}
 use Rattle.ring.specs.Ring.{withPayload, fillNext, withoutOldest, releaseOldest, drained, soundCounts, soundRing, Fits}
 use Rattle.ring.proofs.Packet.{packet-set-other, packet-sets-other, packet-sets-same}
 use Rattle.ring.proofs.Places.{places-apart}

@@ -1,12 +1,12 @@
 -- Each event's rule and the ledger's keep the agreement: events 1 to 9 and SETUP.
 use mathlib.Core.Path.{_≡_, refl, sym, ap, _∙_}
-use mathlib.Core.Bool.{Bool, false, cond, _&&_}
-use mathlib.Core.List.{List, []}
-use Prim.Native.Nat.{ℕ, _+_, _≤_}
+use mathlib.Core.Bool.{false, _&&_}
+use mathlib.Core.List.{List}
+use Prim.Native.Nat.{ℕ, _+_}
 use native.Mathlib.Omega.{arith}
 use lib.Dec.{eqb}
 use borrow.Author.Tests.{eqb-true}
-use Rattle.bits.specs.Bit.{has, raised, lowered, masked}
+use Rattle.bits.specs.Bit.{has, lowered, masked}
 use Rattle.bits.specs.Flag.{isOn}
 use Rattle.bits.proofs.Cases.{cond-elim, cond-elim₂}
 use Rattle.bits.proofs.Flag.{Flags, flags-set, off-flag}
@@ -17,7 +17,7 @@ use Rattle.chip.specs.Mask.{othersThan, setupStalls, sudavirq, in0bavirq, out0d
 use Rattle.chip.specs.Record.{bytesOf, flagsOf}
 use Rattle.chip.specs.Set.{setEp0, setPower, setEpstalls, withVbus, withOscok}
 use Rattle.chip.specs.Sound.{unusedRegisters}
-use Rattle.chip.proofs.Sound.{Clean, clean-set, clean-set-any}
+use Rattle.chip.proofs.Sound.{clean-set, clean-set-any}
 use Rattle.reset.specs.declared.Reset.the-variants.{PowerOn, BusReset}
 use Rattle.model.specs.declared.Event.{Event}
 use Rattle.model.specs.Reply.{Outcome, Reply}

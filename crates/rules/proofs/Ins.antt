@@ -2,16 +2,15 @@
 use mathlib.Core.Path.{_≡_, refl, sym, ap, _∙_}
 use mathlib.Core.Bool.{Bool, true, false, not, cond, _&&_}
 use mathlib.Core.List.{List, [], _∷_, _++_, append-assoc}
-use Prim.Native.Nat.{ℕ, _-_, _≤_, _<_}
+use Prim.Native.Nat.{ℕ, _-_, _<_}
 use native.Mathlib.Omega.{arith}
 use lib.Bits.{bitAnd}
 use lib.Dec.{eqb}
 use borrow.Author.Tests.{eqb-true, eqb-false, lt-ltb, not-true}
 use Rattle.bits.specs.Bit.{has, raised}
-use Rattle.bits.specs.First.{firstOf}
 use Rattle.bits.specs.Flag.{isOn}
 use Rattle.bits.proofs.Cases.{cond-elim, cond-same}
-use Rattle.bits.proofs.First.{first-elim, first-each, Each, none, _⨾_}
+use Rattle.bits.proofs.First.{first-elim, first-each, none, _⨾_}
 use Rattle.bits.proofs.Flag.{flags-set, flipped-flag}
 use Rattle.bits.proofs.Mask.{has-or, has-and-none}
 use Rattle.ring.specs.declared.Ring.{Ring}
@@ -24,13 +23,13 @@ use Rattle.chip.specs.Set.{setEp0}
 use Rattle.chip.specs.Sound.{unusedRegisters}
 use Rattle.chip.proofs.Sound.{clean-set, clean-set-any}
 use Rattle.model.specs.declared.Event.{Event}
-use Rattle.model.specs.Reply.{Outcome, outcome, Reply, silence, stall, nak, sent}
+use Rattle.model.specs.Reply.{Outcome, outcome, Reply, silence, sent}
 use Rattle.rules.specs.declared.InVerdict.{InVerdict}
 use Rattle.rules.specs.declared.InVerdict.the-variants.{Silent, Stall, Nak, Send, Status}
 use Rattle.rules.specs.Seen.{heard}
 use Rattle.rules.specs.Control.{setupByte, setsAddress}
-use Rattle.rules.specs.In.{setInak, addressed, inOutcome, ep0Gone, in0Gone, in0Verdict, in0, ep2Gone, in2Gone, in2Verdict, in2}
-use Rattle.rules.specs.In.{ep3Gone, in3Gone, in3Verdict, in3}
+use Rattle.rules.specs.In.{setInak, addressed, inOutcome, ep0Gone, in0Gone, in0Verdict, in0, in2Gone, in2}
+use Rattle.rules.specs.In.{in3Gone, in3Verdict, in3}
 use Rattle.rules.specs.Event.{inEvent}
 use Rattle.rules.specs.Ledger.{Ledger, noteIn, noteSent, senderAcknowledged, setSender}
 use Rattle.rules.proofs.Agree.{Agree, with-unused, with-flags}

@@ -1,10 +1,10 @@
 -- What a chip must show for demand 3, over any state that holds a MAX3420E's record; and that the MAX3420E shows it, row by row.
 use mathlib.Core.Path.{_≡_, refl, sym, _∙_, subst}
-use mathlib.Core.Bool.{Bool, true, false}
-use mathlib.Core.List.{List, map}
+use mathlib.Core.Bool.{true, false}
+use mathlib.Core.List.{map}
 use Prim.Native.Nat.{ℕ, _≤_}
 use native.Mathlib.Omega.{arith}
-use lib.ListN.{length, getD, List·getD-eq-default}
+use lib.ListN.{length, List·getD-eq-default}
 use Rattle.bits.proofs.First.{Each, none}
 use Rattle.bits.proofs.Mask.{has-or}
 use Rattle.bits.proofs.Rows.{Rows, rows-all, none as end, _⨾_}

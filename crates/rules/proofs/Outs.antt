@@ -1,6 +1,6 @@
 -- OUT keeps the agreement: a payload that endpoint 1 stores joins the ledger's stored.
 use mathlib.Core.Path.{_≡_, refl, sym, ap, _∙_}
-use mathlib.Core.Bool.{Bool, true, false, not, cond, _&&_, Bool·beq, and-false}
+use mathlib.Core.Bool.{true, false, not, Bool·beq, and-false}
 use mathlib.Core.List.{List, [], _∷_, _++_, append-assoc}
 use Prim.Native.Nat.{ℕ, _+_, _≤_, _<_}
 use native.Mathlib.Omega.{arith}
@@ -8,10 +8,9 @@ use lib.Dec.{eqb}
 use lib.ListN.{length}
 use borrow.Author.Tests.{leb-false, eqb-true, lt-ltb, not-false, not-true}
 use Rattle.bits.specs.Bit.{has, raised}
-use Rattle.bits.specs.First.{firstOf}
 use Rattle.bits.specs.Flag.{isOn, flipped}
 use Rattle.bits.proofs.Cases.{cond-elim}
-use Rattle.bits.proofs.First.{first-elim, first-each, Each, none, _⨾_}
+use Rattle.bits.proofs.First.{first-elim, first-each, none, _⨾_}
 use Rattle.bits.proofs.Flag.{flags-set, flipped-flag}
 use Rattle.bits.proofs.Mask.{has-or}
 use Rattle.ring.specs.declared.Ring.{Ring}
@@ -20,16 +19,15 @@ use Rattle.ring.proofs.Laws.{fits-fill, queue-fill}
 use Rattle.chip.specs.declared.Chip.{Chip}
 use Rattle.chip.specs.Mask.{in2bavirq, in3bavirq, out0davirq, out1davirq, ep1disab, stlep1out, unusedOf}
 use Rattle.chip.specs.Record.{flagsOf}
-use Rattle.chip.specs.Set.{setEp0, setEp1}
+use Rattle.chip.specs.Set.{setEp0}
 use Rattle.model.specs.declared.Event.{Event}
 use Rattle.model.specs.Reply.{Outcome, outcome, Reply, silence, ack}
 use Rattle.rules.specs.declared.OutVerdict.{OutVerdict}
 use Rattle.rules.specs.declared.OutVerdict.the-variants.{Silent, Stall, Nak, Drop, Store, Status}
-use Rattle.rules.specs.Write.{raiseEpirq}
 use Rattle.rules.specs.Seen.{heard}
-use Rattle.rules.specs.Out.{outOutcome, ep0Filled, out0Taken, out0Verdict, out0, ep1Filled, out1Taken, out1Verdict, out1}
+use Rattle.rules.specs.Out.{outOutcome, ep0Filled, out0Taken, out0Verdict, out0, out1Taken, out1}
 use Rattle.rules.specs.Event.{outEvent}
-use Rattle.rules.specs.Ledger.{Ledger, noteOut, isAck, receiverStored, setReceiver}
+use Rattle.rules.specs.Ledger.{Ledger, noteOut, receiverStored, setReceiver}
 use Rattle.rules.proofs.Agree.{Agree, with-ep0, with-flags}
 use Rattle.rules.proofs.Irqs.{clean-epirq, agree-epirq, leaves-raised}
 use Rattle.rules.proofs.Events.{Kept}

@@ -1,5 +1,4 @@
 -- A read moves a position at most, and keeps the agreement.
-use mathlib.Core.Bool.{Bool}
 use Prim.Native.Nat.{ℕ, _<_}
 use native.Mathlib.Omega.{arith}
 use lib.Dec.{ltb}

@@ -1,10 +1,10 @@
 -- Demand 3, for every list of calls from power-on and with no hypothesis on the list; that every record of a run is sound; that
 -- refusal 1 never answers a run; that a refused call changes neither record nor ledger. First over any chip that is lawful, then of
 -- the MAX3420E. The theorems assume nothing: no axiom, and no condition on bytes, events or buffers.
-use mathlib.Core.Path.{_≡_, refl, sym, ap, _∙_}
+use mathlib.Core.Path.{_≡_, sym, ap, _∙_}
 use mathlib.Core.Logic.{_↔_}
 use mathlib.Core.Bool.{Bool, true}
-use mathlib.Core.List.{List, [], _∷_, _++_}
+use mathlib.Core.List.{List, _++_}
 use Prim.Native.Nat.{ℕ, _^_, _<_}
 use lib.Dec.{ltb}
 use borrow.Author.Tests.{eqb-true, ltb-true, lt-ltb, eq-eqb}
@@ -16,8 +16,7 @@ use Rattle.refusal.specs.declared.Refusal.the-variants.{Unsound}
 use Rattle.chip.specs.declared.Chip.{Chip}
 use Rattle.chip.specs.Record.{powerOnChip}
 use Rattle.chip.specs.Sound.{soundChip}
-use Rattle.model.specs.declared.Checked.the-variants.{Refused}
-use Rattle.model.specs.Call.{Call, refused, grounds, check, Model, checked, callTo, answerOf, runTo, history}
+use Rattle.model.specs.Call.{Call, refused, grounds, check, Model, callTo, answerOf, runTo, history}
 use Rattle.model.specs.Book.{Book, note, bookOf}
 use Rattle.model.proofs.Refusals.{sound-accepted}
 use Rattle.model.proofs.Keeps.{run-keeps, run-always, refused-keeps}

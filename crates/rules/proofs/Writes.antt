@@ -1,6 +1,6 @@
 -- Each register's write rule and the ledger's keep the agreement: one lemma for each register that the agreement speaks of.
 use mathlib.Core.Path.{_≡_, refl, sym, ap, _∙_}
-use mathlib.Core.Bool.{Bool, false, cond}
+use mathlib.Core.Bool.{Bool, false}
 use mathlib.Core.List.{List, [], _∷_, _++_, append-assoc}
 use Prim.Native.Nat.{ℕ, _+_, _≤_, _<_}
 use native.Mathlib.Decide.{decLt}
@@ -13,7 +13,7 @@ use borrow.Author.Tests.{leb-true, leb-false, ltb-false, lt-ltb, le-ltb}
 use Rattle.bits.specs.Bit.{has, lowered, stored, rises}
 use Rattle.bits.specs.Flag.{isOn}
 use Rattle.bits.proofs.Cases.{cond-elim, cond-elim₂}
-use Rattle.bits.proofs.First.{holdsAt, unless-elim, unless-elim₂}
+use Rattle.bits.proofs.First.{unless-elim, unless-elim₂}
 use Rattle.bits.proofs.Flag.{flags-set, cleared-flag}
 use Rattle.bits.proofs.Mask.{has-and, has-and-none, has-stored-same, has-stored-other}
 use Rattle.ring.specs.declared.Ring.{Ring}
@@ -24,18 +24,18 @@ use Rattle.chip.specs.Mask.{othersThan, countBits, epstallsBits, disableBits, c
 use Rattle.chip.specs.Mask.{in2bavirq, in3bavirq, out1davirq}
 use Rattle.chip.specs.Mask.{clearedEpirqs, epienBits, usbctlBits, chipres, ie, unusedOf}
 use Rattle.chip.specs.Record.{bytesOf, flagsOf}
-use Rattle.chip.specs.Set.{setEp0, setEp2, setEp3, setEpirq, setUsbctl}
+use Rattle.chip.specs.Set.{setEp0, setEp2, setEp3, setUsbctl}
 use Rattle.chip.specs.Sound.{unusedRegisters}
-use Rattle.chip.proofs.Sound.{Clean, clean-set, clean-set-any}
+use Rattle.chip.proofs.Sound.{clean-set, clean-set-any}
 use Rattle.reset.specs.declared.Reset.the-variants.{ChipReset}
 use Rattle.model.proofs.Keeps.{KeepsWrite}
-use Rattle.rules.specs.Write.{WriteRule, lowerEpirq, ep0Busy, ep0Stored, ep0Armed, ep2Stored, ep2Armed, in2bavCleared}
-use Rattle.rules.specs.Write.{ep3Stored, ep3Armed, ignored, writeEp0fifo, writeEp2infifo, writeEp3infifo, writeEp0bc}
+use Rattle.rules.specs.Write.{WriteRule, lowerEpirq, ep0Busy, ep0Armed, ep2Stored, ep2Armed, in2bavCleared}
+use Rattle.rules.specs.Write.{ep3Armed, ignored, writeEp0fifo, writeEp2infifo, writeEp3infifo, writeEp0bc}
 use Rattle.rules.specs.Write.{writeEp2inbc, writeEp3inbc, writeEpstalls, toggleCleared, writeClrtogs, release, writeEpirq, writeEpien}
-use Rattle.rules.specs.Write.{writeUsbirq, writeUsbien, resetOnRise, writeUsbctl, writeCpuctl, writePinctl, writeIopins}
-use Rattle.rules.specs.Seen.{Connection, connectionOf}
+use Rattle.rules.specs.Write.{writeUsbirq, writeUsbien, writeUsbctl, writeCpuctl, writePinctl, writeIopins}
+use Rattle.rules.specs.Seen.{Connection}
 use Rattle.rules.specs.Ledger.{Ledger, LedgerWrite, unnotedWrite, waitingAt2, senderStored, senderArmed, noteEp2infifo}
-use Rattle.rules.specs.Ledger.{noteEp2inbc, noteClrtogs, oldestKept, receiverReleased, noteEpirq, noteRise, noteUsbctl}
+use Rattle.rules.specs.Ledger.{noteEp2inbc, noteClrtogs, oldestKept, receiverReleased, noteEpirq, noteUsbctl}
 use Rattle.rules.specs.Ledger.{notedUsbctl, setSender, setReceiver}
 use Rattle.rules.proofs.Agree.{Sends, SendsOf, Agree, waiting-is, with-sends, with-receives, with-connection, with-ep0}
 use Rattle.rules.proofs.Agree.{with-ep3, with-unused, with-flags}

@@ -1,5 +1,5 @@
 -- The twelve events, by their codes, and the MAX3420E as a model (document 01, "The bus side").
-use mathlib.Core.Bool.{Bool, false, cond, _&&_}
+use mathlib.Core.Bool.{false, cond, _&&_}
 use mathlib.Core.List.{List, [], _∷_}
 use Prim.Native.Nat.{ℕ, _*_}
 use lib.Bits.{bitAnd}

@@ -1,6 +1,6 @@
 -- Worked examples beside the bench cases: what those do not reach. Each is a list of calls with its answers and the pin after each,
 -- from the power-on record; the answers were worked out by hand from document 01. All numbers in hex.
-use mathlib.Core.Bool.{Bool, true, false}
+use mathlib.Core.Bool.{true, false}
 use mathlib.Core.List.{List, [], _∷_, _++_, map}
 use Prim.Native.Nat.{ℕ}
 use lib.ListN.{replicate}
@@ -11,7 +11,7 @@ use Rattle.chip.specs.declared.PinReply.the-variants.{Level}
 use Rattle.model.specs.declared.Event.{Event}
 use Rattle.model.specs.Reply.{Reply, transferred, done, silence, ack, nak, stall, sent}
 use Rattle.model.specs.Call.{Call, transfer, event, refused, answered}
-use Rattle.rules.specs.Bench.{Step, called, still, asked, spi, signals, on, out, «in», r11, setup, plain, noChange, pinned}
+use Rattle.rules.specs.Bench.{Step, called, still, spi, signals, on, out, «in», r11, setup, plain, noChange, pinned}
 use Rattle.rules.specs.Bench.{writes, reads}
 
 -- a transaction's event at an address and endpoint, undamaged

@@ -1,7 +1,7 @@
 -- IN at endpoints 0, 2 and 3: the verdict, which is what the first rule gives that applies; then the record and the reply for each
 -- verdict (document 01, "The bus side"; 000 pages 40, 42, 44).
 use mathlib.Core.Bool.{Bool, true, false, not, cond}
-use mathlib.Core.List.{List, [], _∷_}
+use mathlib.Core.List.{[], _∷_}
 use Prim.Native.Nat.{ℕ}
 use lib.Bits.{bitAnd}
 use lib.Dec.{eqb}

@@ -18,21 +18,19 @@ use Rattle.chip.specs.Set.{setEpstalls}
 use Rattle.chip.specs.Sound.{soundChip}
 use Rattle.chip.specs.Pin.{pinOf}
 use Rattle.chip.proofs.Sound.{sound-clauses}
-use Rattle.model.specs.declared.Checked.{Checked}
 use Rattle.model.specs.declared.Checked.the-variants.{Accepted, Refused}
-use Rattle.model.specs.Reply.{lent, replyBytes}
+use Rattle.model.specs.Reply.{lent}
 use Rattle.model.specs.Spi.{Spi, commandRegister, commandWrites, commandAcknowledges, commandTo, burstTo, burstOf, transferTo, transferOf}
-use Rattle.model.specs.Call.{Call, transfer, transferGrounds, check, checked, checkedTo, checkedAnswer, checkedNumber, callTo}
+use Rattle.model.specs.Call.{transfer, transferGrounds, check, checked, checkedNumber, callTo}
 use Rattle.model.specs.Call.{answerOf, bufferAfter}
 use Rattle.model.proofs.Loop.{burst-length}
 use Rattle.model.proofs.Refusals.{accepted-none}
 use Rattle.rules.specs.Spi.{max3420eSpi}
 use Rattle.rules.specs.Event.{max3420e}
 use Rattle.bits.proofs.Cases.{cond-map}
-use Rattle.spi.specs.declared.TransferReply.{TransferReply}
 use Rattle.spi.specs.declared.TransferReply.the-variants as reply
 use Rattle.spi.specs.declared.TransferAnswer.{TransferAnswer}
-use Rattle.spi.specs.Transfer.{transferAnswerWith, transferAnswer, transferRefusal, transferCount, transferredCount}
+use Rattle.spi.specs.Transfer.{transferAnswer, transferRefusal, transferCount, transferredCount}
 
 -- ---- an accepted transfer
 

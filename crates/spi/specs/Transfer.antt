@@ -1,6 +1,5 @@
 -- What a transfer hands back, from the answer of the model and the record after the call (document 01, "The SPI side" and
 -- "Numbers of refusal").
-use mathlib.Core.List.{List}
 use Prim.Native.Nat.{ℕ}
 use lib.ListN.{length}
 use Rattle.refusal.specs.Number.{refusalNumber}

@@ -1,10 +1,10 @@
 -- The board step reads eight bytes, so the firmware never refuses them; and what it replies does not depend on the lent bytes.
-use mathlib.Core.Path.{_≡_, refl, sym, ap, ap₂, _∙_}
-use mathlib.Core.Bool.{Bool, true, false, not, cond}
-use mathlib.Core.List.{List, [], _∷_, _++_}
+use mathlib.Core.Path.{_≡_, refl, sym, ap, _∙_}
+use mathlib.Core.Bool.{Bool, true, false, cond}
+use mathlib.Core.List.{List, _∷_, _++_}
 use Prim.Native.Nat.{ℕ, _-_, _≤_}
 use native.Mathlib.Omega.{arith}
-use lib.Dec.{eqb, ltb}
+use lib.Dec.{eqb}
 use lib.ListN.{length, take, drop, replicate, length-drop}
 use lib.Seq.{take-all, take-at, length-take-le}
 use native.Mathlib.Nat.{min-le-right}
@@ -12,7 +12,6 @@ use borrow.Author.Tests.{eq-eqb, le-ltb}
 use Rattle.descriptor.specs.Send.{count}
 use Rattle.descriptor.specs.Table.{dataBytes}
 use Rattle.refusal.specs.declared.Refusal.{Refusal}
-use Rattle.refusal.specs.Number.{refusalNumber}
 use Rattle.chip.specs.declared.Chip.{Chip}
 use Rattle.request.specs.declared.Firmware.{Firmware}
 use Rattle.request.specs.declared.Decision.{Decision}
@@ -21,8 +20,6 @@ use Rattle.request.specs.declared.Endpoints.{Endpoints}
 use Rattle.request.specs.declared.Endpoints.the-variants.{Unchanged}
 use Rattle.request.specs.Record.{soundFirmware}
 use Rattle.request.specs.Request.{requestOf, decisionOf}
-use Rattle.firmware.specs.declared.RequestAnswer.{RequestAnswer}
-use Rattle.firmware.specs.declared.RequestReply.{RequestReply}
 use Rattle.firmware.specs.declared.RequestReply.the-variants.{Refused, Ack, Data}
 use Rattle.firmware.specs.Answer.{handled, servedOf, decisionServed, requestRefusal}
 use Rattle.firmware.proofs.Laws.{handled-numbers}

@@ -3,10 +3,9 @@ use mathlib.Core.Bool.{and-false}
 use Rattle.board.specs.Board.{startsAnew}
 use mathlib.Core.Path.{_≡_}
 use mathlib.Core.Bool.{true, false}
-use mathlib.Core.Path.{refl, ap, _∙_}
+use mathlib.Core.Path.{refl, ap}
 use borrow.Author.Tests.{not-true, not-false}
 use Rattle.event_answer.specs.declared.EventAnswer.{EventAnswer}
-use Rattle.board.specs.declared.BoardEvent.{BoardEvent}
 use Rattle.model.specs.Call.{runTo}
 use Rattle.board.specs.Board.{boardTo, firmwareFor}
 use borrow.Author.Needs.{needs}

@@ -4,7 +4,6 @@ use mathlib.Core.Bool.{true, false}
 use borrow.Author.Tests.{not-true, not-false}
 use mathlib.Core.Path.{refl, ap}
 use Rattle.spi.specs.declared.TransferAnswer.{TransferAnswer}
-use Rattle.board.specs.declared.BoardTransfer.{BoardTransfer}
 use Rattle.model.specs.Call.{runTo}
 use Rattle.board.specs.Board.{boardTo}
 use borrow.Author.Needs.{needs}

@@ -1,7 +1,7 @@
 -- `max3420e::run` is safe and ends: its turns are counted down.
 use borrow.Author.Needs.{needs}
-use mathlib.Core.Path.{_≡_, sym}
-use Prim.Native.Nat.{_≤_, _-_}
+use mathlib.Core.Path.{_≡_}
+use Prim.Native.Nat.{_-_}
 use lib.ListN.{length}
 use Rattle.max3420e.proofs.run.Statement.{statement}
 use Rattle.max3420e.proofs.run.Tie as tie

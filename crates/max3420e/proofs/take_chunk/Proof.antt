@@ -1,7 +1,7 @@
 -- `max3420e::take_chunk` is safe and ends: each turn takes a byte of the chunk at least.
 use borrow.Author.Needs.{needs}
 use mathlib.Core.Path.{_≡_}
-use Prim.Native.Nat.{_≤_, _-_}
+use Prim.Native.Nat.{_-_}
 use lib.ListN.{length}
 use Rattle.max3420e.proofs.take_chunk.Statement.{statement}
 use Rattle.max3420e.proofs.take_chunk.Tie as tie

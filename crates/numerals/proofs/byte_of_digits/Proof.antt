@@ -1,5 +1,5 @@
 -- `numerals::byte_of_digits` meets its contract. The tests are those of the definition.
-use borrow.Author.Tests.{lt-ltb, le-ltb, le-leb, lt-leb, eq-eqb, ne-eqb}
+use borrow.Author.Tests.{lt-ltb, le-ltb}
 use borrow.Author.Needs.{needs}
 use Rattle.numerals.proofs.byte_of_digits.Statement.{statement}
 use Rattle.numerals.proofs.byte_of_digits.Tie as tie

@@ -1,5 +1,5 @@
 -- `numerals::hex_digit` meets its contract. The tests are those of the definition, in its order.
-use borrow.Author.Tests.{lt-ltb, le-ltb, le-leb, lt-leb, eq-eqb, ne-eqb}
+use borrow.Author.Tests.{lt-ltb, le-ltb}
 use borrow.Author.Needs.{needs}
 use Rattle.numerals.proofs.hex_digit.Statement.{statement}
 use Rattle.numerals.proofs.hex_digit.Tie as tie

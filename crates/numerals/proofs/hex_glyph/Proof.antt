@@ -1,5 +1,5 @@
 -- `numerals::hex_glyph` meets its contract. The test is the definition's.
-use borrow.Author.Tests.{lt-ltb, le-ltb, le-leb, lt-leb, eq-eqb, ne-eqb}
+use borrow.Author.Tests.{lt-ltb, le-ltb}
 use borrow.Author.Needs.{needs}
 use Rattle.numerals.proofs.hex_glyph.Statement.{statement}
 use Rattle.numerals.proofs.hex_glyph.Tie as tie

@@ -1,6 +1,6 @@
 -- `numerals::read_byte` meets its contract. The length decides as in the definition; a digit's value is its definition's.
 use Rattle.numerals.specs.Numerals.{byteOf}
-use borrow.Author.Tests.{lt-ltb, le-ltb, le-leb, lt-leb, eq-eqb, ne-eqb}
+use borrow.Author.Tests.{eq-eqb, ne-eqb}
 use borrow.Author.Needs.{needs}
 use Rattle.numerals.proofs.read_byte.Statement.{statement}
 use Rattle.numerals.proofs.read_byte.Tie as tie

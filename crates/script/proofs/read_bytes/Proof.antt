@@ -4,7 +4,6 @@ use mathlib.Core.Path.{_≡_, sym, _∙_}
 use borrow.Author.Tests.{eqb-false}
 use Prim.Native.Nat.{_≤_, _-_}
 use lib.ListN.{length, length-set}
-use native.Mathlib.Omega.{arith}
 use Rattle.script.proofs.read_bytes.Statement.{statement}
 use Rattle.script.proofs.read_bytes.Tie as tie
 

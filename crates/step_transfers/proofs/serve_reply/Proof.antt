@@ -1,5 +1,5 @@
 -- `serve_reply` meets its promise: the transfers of each reply.
-use mathlib.Core.Path.{refl, sym, ap, _∙_}
+use mathlib.Core.Path.{sym, ap, _∙_}
 use mathlib.Core.List.{[], _∷_}
 use Rattle.chip.specs.declared.Chip.{Chip}
 use Rattle.chip.specs.Sound.{soundChip}

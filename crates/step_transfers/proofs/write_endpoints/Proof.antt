@@ -1,5 +1,4 @@
 -- `write_endpoints` meets its promise: nothing, or both registers.
-use mathlib.Core.Path.{refl}
 use Rattle.model.specs.Call.{runTo}
 use borrow.Author.Needs.{needs}
 use Rattle.step_transfers.proofs.write_endpoints.Statement.{statement}
