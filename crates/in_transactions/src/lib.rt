@@ -169,7 +169,7 @@ fn fnaddr_after(chip: Chip, acknowledged: bool) -> u8
     ensures { λ r. ⌜ r
         ≡ cond (acknowledged && setsAddress chip) (bitAnd (setupByte chip 2) fnaddrBits) (chip .registers .fnaddr) ⌝ }
 {
-    if acknowledged & verdicts::sets_address(chip) {
+    if acknowledged & control_stages::sets_address(chip) {
         let setup = chip.ep0.setup;
         return setup[2] & 0x7f;
     }

@@ -1,12 +1,12 @@
 // What the chip decides on a transaction, in plain numbers and before any record is made: whether it is heard, and each endpoint's
 // verdict (document 01, "The bus side"). A function tests in the order of the definition that its promise cites.
 use chip::Chip;
+use control_stages::reading;
+use control_stages::w_length;
 use rules::InVerdict;
 use rules::OutVerdict;
 ghost use mathlib.Core.Path.{_≡_};
-ghost use Prim.Native.Nat.{_+_, _*_};
 ghost use Rattle.rules.specs.Seen.{connectionOf, seen, heard};
-ghost use Rattle.rules.specs.Control.{wLength, reading, setsAddress};
 ghost use Rattle.rules.specs.Write.{ep0Busy};
 ghost use Rattle.rules.specs.Out.{out0Idle, out0Status, out0Data, out0Verdict, out1Verdict};
 ghost use Rattle.rules.specs.In.{in0Status, in0Data, in0Verdict, inVerdict, in2Verdict, in3Verdict};
@@ -29,38 +29,6 @@ pub fn heard(chip: Chip, damaged: bool, address: u8) -> bool
     ensures { λ r. ⌜ r ≡ heard chip damaged address ⌝ }
 {
     seen(chip) & !damaged & (address == chip.registers.fnaddr)
-}
-
-// ---- the stages of a control transfer
-
-// A word, low byte first.
-fn word(low: u8, high: u8) -> u16
-    ensures { λ r. ⌜ r ≡ low + 256 * high ⌝ }
-{
-    (low as u16) + 256 * (high as u16)
-}
-
-fn w_length(chip: Chip) -> u16
-    ensures { λ r. ⌜ r ≡ wLength chip ⌝ }
-{
-    let setup = chip.ep0.setup;
-    word(setup[6], setup[7])
-}
-
-// IN is data and OUT is status.
-fn reading(chip: Chip) -> bool
-    ensures { λ r. ⌜ r ≡ reading chip ⌝ }
-{
-    let setup = chip.ep0.setup;
-    (setup[0] & 0x80 != 0) & (w_length(chip) != 0)
-}
-
-// The request is SET_ADDRESS.
-pub fn sets_address(chip: Chip) -> bool
-    ensures { λ r. ⌜ r ≡ setsAddress chip ⌝ }
-{
-    let setup = chip.ep0.setup;
-    (setup[0] == 0x00) & (setup[1] == 0x05) & (w_length(chip) == 0)
 }
 
 // ---- OUT

@@ -5,6 +5,7 @@ use denote.Ref.{now}
 use borrow.Author.Needs.{needs}
 use Rattle.model.specs.declared.Checked.the-variants.{Accepted, Refused}
 use Rattle.chip.specs.Sound.{soundChip}
+use Rattle.model.specs.Call.{event as eventCall}
 use Rattle.bus.proofs.Accepted.{check-of}
 use Rattle.bus.proofs.Call.{numbers, refused-answer, accepted-answer}
 use Rattle.bus.proofs.event.Statement.{statement}

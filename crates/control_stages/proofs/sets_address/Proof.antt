@@ -1,7 +1,7 @@
 -- `sets_address` meets its promise. The definition joins what the tests answer.
 use borrow.Author.Needs.{needs}
-use Rattle.verdicts.proofs.sets_address.Statement.{statement}
-use Rattle.verdicts.proofs.sets_address.Tie as tie
+use Rattle.control_stages.proofs.sets_address.Statement.{statement}
+use Rattle.control_stages.proofs.sets_address.Tie as tie
 
 array-read-result : tie.Need-array-read-result
 array-read-result c = search needs

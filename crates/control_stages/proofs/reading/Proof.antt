@@ -1,7 +1,7 @@
 -- `reading` meets its promise. The definition joins what the tests answer.
 use borrow.Author.Needs.{needs}
-use Rattle.verdicts.proofs.reading.Statement.{statement}
-use Rattle.verdicts.proofs.reading.Tie as tie
+use Rattle.control_stages.proofs.reading.Statement.{statement}
+use Rattle.control_stages.proofs.reading.Tie as tie
 
 array-read-result : tie.Need-array-read-result
 array-read-result c = search needs
