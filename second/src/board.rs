@@ -72,9 +72,9 @@ fn stall(chip: &mut Chip) {
 
 /// Bytes to R0, then `2B n`.
 fn send(chip: &mut Chip, bytes: &[u8]) {
-    let mut to_r0 = vec![0x02];
-    to_r0.extend_from_slice(bytes);
-    send_transfer(chip, &to_r0);
+    let mut to_r0 = [0x02; BUFFER + 1];
+    to_r0[1..=bytes.len()].copy_from_slice(bytes);
+    send_transfer(chip, &to_r0[..=bytes.len()]);
     send_transfer(chip, &[0x2B, bytes.len() as u8]);
 }
 

@@ -1,4 +1,25 @@
-//! The firmware's tables (decision 31: 003 prints part of the bytes, the rest is the project's own).
+//! The firmware's tables (decision 31: 003 prints part of the bytes, the rest is the project's own), and what it sends of them.
+
+use crate::chip::BUFFER;
+
+/// Bytes to send, at most 64, by value.
+#[derive(Clone, Copy)]
+pub struct Sent {
+    bytes: [u8; BUFFER],
+    count: usize,
+}
+
+impl Sent {
+    pub fn of(bytes: &[u8]) -> Sent {
+        let mut sent = Sent { bytes: [0; BUFFER], count: bytes.len() };
+        sent.bytes[..bytes.len()].copy_from_slice(bytes);
+        sent
+    }
+
+    pub fn bytes(&self) -> &[u8] {
+        &self.bytes[..self.count]
+    }
+}
 
 /// USB 1.0, vendor 0B6A, product 5346, release 1234, strings 1, 2, 3, one configuration.
 pub const DEVICE: [u8; 18] =
@@ -19,20 +40,23 @@ pub const REPORT: [u8; 43] = [
 ];
 
 /// String descriptor `index`: 0 is the language 0409, 1 to 3 are texts.
-pub fn string(index: u8) -> Option<Vec<u8>> {
-    let units: Vec<u16> = match index {
-        0 => vec![0x0409],
-        1 => "Maxim".encode_utf16().collect(),
-        2 => "MAX3420E Enum Code".encode_utf16().collect(),
-        3 => "S/N 3420E".encode_utf16().collect(),
+pub fn string(index: u8) -> Option<Sent> {
+    let text = match index {
+        0 => return Some(Sent::of(&[4, 0x03, 0x09, 0x04])),
+        1 => "Maxim",
+        2 => "MAX3420E Enum Code",
+        3 => "S/N 3420E",
         _ => return None,
     };
-    let mut bytes = vec![2 + 2 * units.len() as u8, 0x03];
-    bytes.extend(units.iter().flat_map(|unit| unit.to_le_bytes()));
-    Some(bytes)
+    let mut sent = Sent::of(&[2 + 2 * text.len() as u8, 0x03]);
+    for unit in text.encode_utf16() {
+        sent.bytes[sent.count..][..2].copy_from_slice(&unit.to_le_bytes());
+        sent.count += 2;
+    }
+    Some(sent)
 }
 
 /// The HID descriptor stands inside the configuration.
-pub fn hid() -> Vec<u8> {
-    CONFIGURATION[18..27].to_vec()
+pub fn hid() -> Sent {
+    Sent::of(&CONFIGURATION[18..27])
 }

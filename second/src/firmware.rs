@@ -1,7 +1,7 @@
 //! The firmware's answer to a chapter 9 request (document 01, "The firmware").
 
 use crate::chip::{BUFFER, SETUP};
-use crate::descriptors::{hid, string, CONFIGURATION, DEVICE, REPORT};
+use crate::descriptors::{hid, string, Sent, CONFIGURATION, DEVICE, REPORT};
 use crate::flips::{flipped, Flip};
 
 /// The firmware's own record; flags are 0 or 1.
@@ -51,7 +51,7 @@ pub const DATA: u8 = 3;
 enum Decision {
     Stall,
     Ack(Firmware, Endpoints),
-    Data(Vec<u8>),
+    Data(Sent),
 }
 
 /// Eight setup bytes, the firmware's record, 64 bytes or more lent for the reply.
@@ -64,7 +64,8 @@ pub fn firmware_answer(setup: &[u8], firmware: Firmware, reply: &mut [u8]) -> Fi
     match decide(&Request::of(setup), &firmware) {
         Decision::Stall => FirmwareAnswer { kind: STALL, ..plain },
         Decision::Ack(firmware, endpoints) => FirmwareAnswer { firmware, kind: ACK, endpoints, ..plain },
-        Decision::Data(bytes) => {
+        Decision::Data(sent) => {
+            let bytes = sent.bytes();
             let wlength = u16::from_le_bytes([setup[6], setup[7]]) as usize;
             let n = wlength.min(bytes.len());
             reply[..n].copy_from_slice(&bytes[..n]);
@@ -123,12 +124,12 @@ fn decide(request: &Request, firmware: &Firmware) -> Decision {
         (0x02, 0x01 | 0x03) if request.value == 0 && request.no_data(0x83) && configured => halt(request.code, firmware),
         (0x00, 0x05) if request.no_data(0) => Decision::Ack(*firmware, Endpoints::Unchanged),
         (0x80, 0x06) | (0x81, 0x06) => descriptor(request),
-        (0x80, 0x08) if request.plain_read() => Decision::Data(vec![firmware.configuration]),
+        (0x80, 0x08) if request.plain_read() => Decision::Data(Sent::of(&[firmware.configuration])),
         (0x00, 0x09) if request.value <= 1 && request.no_data(0) => {
             let configuration = request.value as u8;
             Decision::Ack(Firmware { configuration, halted: 0, ..*firmware }, Endpoints::Configure)
         }
-        (0x81, 0x0A) if request.plain_read() && configured => Decision::Data(vec![0]),
+        (0x81, 0x0A) if request.plain_read() && configured => Decision::Data(Sent::of(&[0])),
         (0x01, 0x0B) if request.value == 0 && request.no_data(0) && configured => {
             Decision::Ack(*firmware, Endpoints::Unchanged)
         }
@@ -139,10 +140,10 @@ fn decide(request: &Request, firmware: &Firmware) -> Decision {
 fn status(request: &Request, firmware: &Firmware) -> Decision {
     let configured = firmware.configuration == 1;
     match (request.kind, request.value, request.index) {
-        (0x80, 0, 0) => Decision::Data(vec![1 | firmware.wakeup << 1, 0]),
-        (0x81, 0, 0) if configured => Decision::Data(vec![0, 0]),
-        (0x82, 0, 0 | 0x80) => Decision::Data(vec![0, 0]),
-        (0x82, 0, 0x83) if configured => Decision::Data(vec![firmware.halted, 0]),
+        (0x80, 0, 0) => Decision::Data(Sent::of(&[1 | firmware.wakeup << 1, 0])),
+        (0x81, 0, 0) if configured => Decision::Data(Sent::of(&[0, 0])),
+        (0x82, 0, 0 | 0x80) => Decision::Data(Sent::of(&[0, 0])),
+        (0x82, 0, 0x83) if configured => Decision::Data(Sent::of(&[firmware.halted, 0])),
         _ => Decision::Stall,
     }
 }
@@ -160,10 +161,10 @@ fn descriptor(request: &Request) -> Decision {
     let [index, kind] = request.value.to_le_bytes();
     let bytes = match (request.kind, kind) {
         (0x80, 3) => string(index),
-        (0x80, 1) if index == 0 && request.index == 0 => Some(DEVICE.to_vec()),
-        (0x80, 2) if index == 0 && request.index == 0 => Some(CONFIGURATION.to_vec()),
+        (0x80, 1) if index == 0 && request.index == 0 => Some(Sent::of(&DEVICE)),
+        (0x80, 2) if index == 0 && request.index == 0 => Some(Sent::of(&CONFIGURATION)),
         (0x81, 0x21) if index == 0 && request.index == 0 => Some(hid()),
-        (0x81, 0x22) if index == 0 && request.index == 0 => Some(REPORT.to_vec()),
+        (0x81, 0x22) if index == 0 && request.index == 0 => Some(Sent::of(&REPORT)),
         _ => None,
     };
     bytes.map_or(Decision::Stall, Decision::Data)

@@ -370,6 +370,7 @@ impl Chip {
             & ((irqs & Chip::OUT1DAVIRQ != 0) == (0 < self.ep1.ring.waiting))
     }
 
+    // Every flag is 0 or 1.
     fn sound_flags(self) -> bool
         ensures { λ r. ⌜ r ≡ soundFlags self ⌝ }
     {

@@ -31,7 +31,7 @@ pub record Sender : Type 0 where
   pub turn : ℕ
   pub writepos : ℕ
 
--- endpoint 1: the lists and the toggle
+-- endpoint 1: the lists and the toggle, 1 for DATA1
 pub record Receiver : Type 0 where
   pub stored : List (List ℕ)
   pub released : List (List ℕ)

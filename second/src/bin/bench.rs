@@ -226,7 +226,7 @@ mod measured {
     pub fn print_table() {
         println!("Machine: {}. Best of {ROUNDS} rounds of {CALLS} calls, both models in turn.\n", machine());
         println!("Command: `{}`\n", super::COMMAND);
-        println!("Reply buffers are not cleared between calls. The second model's firmware allocates what it sends.\n");
+        println!("Reply buffers are not cleared between calls.\n");
         if cfg!(debug_assertions) || cfg!(feature = "flips") {
             println!("**Not comparable: this build of the second model has checks or flips in it.**\n");
         }
