@@ -19,12 +19,13 @@ use Rattle.model.specs.declared.Checked.{Checked}
 use Rattle.model.specs.declared.Checked.the-variants.{Accepted, Refused}
 use Rattle.model.specs.Call.{checkedNumber}
 use Rattle.model.proofs.Refusals.{accepted-none}
-use Rattle.board.specs.declared.Board.{Board}
+use Rattle.board_record.specs.declared.Board.{Board}
 use Rattle.board.specs.declared.BoardStep.{BoardStep}
 use Rattle.board.specs.declared.StepReply.{StepReply}
 use Rattle.board.specs.declared.StepReply.the-variants as step
 use Rattle.step_transfers.specs.Step.{sudav, served}
-use Rattle.board.specs.Board.{soundBoard, stepChecked, repliedStep, stepReplyOf, stepRefusal, stepKind, stepCount}
+use Rattle.board.specs.Board.{stepChecked, repliedStep, stepReplyOf, stepRefusal, stepKind, stepCount}
+use Rattle.board_record.specs.Record.{soundBoard}
 use Rattle.board.specs.Board.{steppedWith, steppedKind, steppedCount, boardStep}
 use Rattle.step_transfers.proofs.Setup.{firmware-accepts}
 

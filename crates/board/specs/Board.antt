@@ -1,25 +1,21 @@
 -- Calls to the board: the chip calls that each makes, the records after it, and its answer.
-use mathlib.Core.Bool.{Bool, true, false, not, cond, _&&_, _||_}
+use mathlib.Core.Bool.{not, cond}
 use mathlib.Core.List.{List, [], _∷_}
 use Prim.Native.Nat.{ℕ}
-use lib.Dec.{eqb, ltb}
+use lib.Dec.{ltb}
 use Rattle.refusal.specs.Number.{refusalNumber}
 use Rattle.refusal.specs.declared.Refusal.the-variants.{Unsound, ShortBuffer}
-use Rattle.chip.specs.Record.{powerOnChip}
-use Rattle.chip.specs.Sound.{soundChip}
 use Rattle.request.specs.declared.Firmware.{Firmware}
-use Rattle.request.specs.Record.{powerOnFirmware, soundFirmware}
+use Rattle.request.specs.Record.{soundFirmware}
 use Rattle.firmware.specs.declared.RequestReply.{RequestReply}
 use Rattle.firmware.specs.declared.RequestReply.the-variants as request
 use Rattle.firmware.specs.Answer.{handled, requestKind, requestCount}
-use Rattle.model.specs.declared.Event.{Event}
 use Rattle.model.specs.declared.Checked.{Checked}
 use Rattle.model.specs.declared.Checked.the-variants.{Accepted, Refused}
-use Rattle.event_answer.specs.declared.EventReply.{EventReply}
-use Rattle.event_answer.specs.declared.EventReply.the-variants as reply
 use Rattle.model.specs.Call.{Call, transfer, event, Answer, refused, check, checked, answerOf, runTo}
 use Rattle.rules.specs.Event.{max3420e}
-use Rattle.board.specs.declared.Board.{Board}
+use Rattle.board_record.specs.declared.Board.{Board}
+use Rattle.board_record.specs.Record.{soundBoard, firmwareFor}
 use Rattle.chip.specs.Pin.{pinOf}
 use Rattle.spi.specs.Transfer.{transferReplyOf}
 use Rattle.bus.specs.EventCall.{eventReplyOf}
@@ -29,12 +25,6 @@ use Rattle.board.specs.declared.BoardStep.{BoardStep}
 use Rattle.board.specs.declared.StepReply.{StepReply}
 use Rattle.board.specs.declared.StepReply.the-variants as step
 use Rattle.step_transfers.specs.Step.{setupRead, served, sudav, stepCalls}
-
-abbrev pub powerOnBoard : Board
-powerOnBoard = record { chip = powerOnChip; firmware = powerOnFirmware }
-
-abbrev pub soundBoard : Board → Bool
-soundBoard b = soundChip (b .chip) && soundFirmware (b .firmware)
 
 -- a transfer or an event, as the chip's; or the step, lent so many bytes for its reply
 pub data BoardCall : Type 0 where
@@ -48,23 +38,6 @@ boardChecked b k = cond (soundFirmware (b .firmware)) (checked max3420e (b .chip
 
 abbrev pub boardAnswer : Board → Call → Answer
 boardAnswer b k = cond (soundFirmware (b .firmware)) (answerOf max3420e (b .chip) k) (refused Unsound)
-
--- power-on and a bus reset start that is seen put the firmware's record back: both are answered done
-abbrev pub isDone : EventReply → Bool
-isDone (reply.Refused r) = false
-isDone reply.Done = true
-isDone reply.Silence = false
-isDone reply.Ack = false
-isDone reply.Nak = false
-isDone reply.Stall = false
-isDone (reply.Data0 n) = false
-isDone (reply.Data1 n) = false
-
-abbrev pub startsAnew : Event → Bool
-startsAnew e = eqb (e .code) 1 || eqb (e .code) 6
-
-abbrev pub firmwareFor : Firmware → Event → EventReply → Firmware
-firmwareFor f e a = cond (startsAnew e && isDone a) powerOnFirmware f
 
 abbrev pub firmwareAt : Firmware → Call → Answer → Firmware
 firmwareAt f (transfer bytes room) a = f

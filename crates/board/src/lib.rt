@@ -1,8 +1,9 @@
 // The board: chip and firmware together (document 01, "The firmware", last paragraph). A board call is a list of chip calls.
+pub use board_record::Board;
+use board_record::firmware_at;
 use chip::Chip;
 use chip::Pin;
 use event_answer::EventReply;
-use firmware::Firmware;
 use firmware::RequestReply;
 use model::Event;
 use refusal::Refusal;
@@ -19,14 +20,9 @@ ghost use Rattle.spi.specs.Transfer.{transferRefusal, transferCount, transferre
 ghost use Rattle.bus.specs.EventCall.{eventRefusal, eventPid, eventCount, answerPid, answerCount};
 ghost use Rattle.rules.specs.Event.{max3420e};
 ghost use Rattle.step_transfers.specs.Step.{setupRead, served, setupCalls};
-ghost use Rattle.board.specs.Board.{powerOnBoard, soundBoard, boardAnswer, isDone, firmwareFor, repliedStep, stepChecked, stepBuffer};
+ghost use Rattle.board.specs.Board.{boardAnswer, repliedStep, stepChecked, stepBuffer};
 ghost use Rattle.board.specs.Board.{steppedWith, boardStep, boardTransfer, boardEvent, boardChecked};
 ghost use Rattle.board.specs.Board.{stepRefusal, stepKind, stepCount, steppedKind, steppedCount};
-
-pub struct Board {
-    pub chip: Chip,
-    pub firmware: Firmware,
-}
 
 // Why a step is refused; nothing to serve; or what the firmware replied.
 pub enum StepReply {
@@ -53,25 +49,6 @@ pub struct BoardStep {
     pub board: Board,
     pub reply: StepReply,
     pub pin: Pin,
-}
-
-impl Board {
-    pub fn power_on() -> Self
-        ensures { λ r. ⌜ r ≡ powerOnBoard ⌝ }
-    {
-        Board {
-            chip: Chip::power_on(),
-            firmware: Firmware::power_on(),
-        }
-    }
-
-    pub fn is_sound(self) -> bool
-        ensures { λ r. ⌜ r ≡ soundBoard self ⌝ }
-    {
-        let c = self.chip;
-        let f = self.firmware;
-        c.is_sound() & f.is_sound()
-    }
 }
 
 // Both records after a step that serves a SETUP, and the firmware's reply.
@@ -184,32 +161,6 @@ pub fn transfer(board: Board, bytes: &[u8], reply: &mut [u8]) -> BoardTransfer
         reply: kind,
         pin,
     }
-}
-
-fn is_done(reply: EventReply) -> bool
-    ensures { λ r. ⌜ r ≡ isDone reply ⌝ }
-{
-    match reply {
-        EventReply::Refused(_refusal) => false,
-        EventReply::Done => true,
-        EventReply::Silence => false,
-        EventReply::Ack => false,
-        EventReply::Nak => false,
-        EventReply::Stall => false,
-        EventReply::Data0(_n) => false,
-        EventReply::Data1(_n) => false,
-    }
-}
-
-// Power-on and a bus reset start that is seen put the firmware's record back.
-fn firmware_at(firmware: Firmware, event: Event, reply: EventReply) -> Firmware
-    ensures { λ r. ⌜ r ≡ firmwareFor firmware event reply ⌝ }
-{
-    let done = is_done(reply);
-    if ((event.code == 1) | (event.code == 6)) & done {
-        return Firmware::power_on();
-    }
-    firmware
 }
 
 // An event, as the chip's.

@@ -25,9 +25,10 @@ use Rattle.rules.specs.Ledger.{blank, max3420eLedger}
 use Rattle.rules.specs.Demand.{Demand3}
 use Rattle.rules.proofs.Theorem.{demand3, reached-sound, reached-accepted}
 use Rattle.bus.specs.EventCall.{eventReplyOf}
-use Rattle.board.specs.declared.Board.{Board}
+use Rattle.board_record.specs.declared.Board.{Board}
 use Rattle.step_transfers.specs.Step.{setupRead, sudav}
-use Rattle.board.specs.Board.{powerOnBoard, soundBoard, BoardCall, onChip, steps, boardAnswer, startsAnew, isDone, firmwareAt}
+use Rattle.board.specs.Board.{BoardCall, onChip, steps, boardAnswer, firmwareAt}
+use Rattle.board_record.specs.Record.{powerOnBoard, soundBoard, startsAnew, isDone}
 use Rattle.board.specs.Board.{stepChecked, stepFirmware, firmwareTo, chipCalls, boardTo}
 use Rattle.board_runs.specs.Runs.{boardRunTo, allChipCalls}
 

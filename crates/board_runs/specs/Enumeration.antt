@@ -7,10 +7,11 @@ use lib.ListN.{length, take, replicate, getD}
 use Rattle.descriptor.specs.Table.{device, configuration, report, strings}
 use Rattle.model.specs.Reply.{Reply, transferred, done, silence, ack, stall, sent}
 use Rattle.model.specs.Call.{Call, transfer, event, Answer, answered}
-use Rattle.board.specs.declared.Board.{Board}
+use Rattle.board_record.specs.declared.Board.{Board}
 use Rattle.board.specs.declared.StepReply.{StepReply}
 use Rattle.board.specs.declared.StepReply.the-variants.{Idle, Stall, Ack, Data}
-use Rattle.board.specs.Board.{powerOnBoard, onChip, steps, boardAnswer, stepChecked, stepReplyOf, stepBuffer, stepCount, boardTo}
+use Rattle.board.specs.Board.{onChip, steps, boardAnswer, stepChecked, stepReplyOf, stepBuffer, stepCount, boardTo}
+use Rattle.board_record.specs.Record.{powerOnBoard}
 
 -- a transfer or an event with its answer; or the step, lent 64 bytes, with its reply and the bytes that it counts
 pub data Play : Type 0 where

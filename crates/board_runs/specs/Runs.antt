@@ -1,7 +1,7 @@
 -- A list of calls to the board: the records after it, and all chip calls that it makes.
 use mathlib.Core.List.{List, [], _∷_, _++_}
 use Rattle.model.specs.Call.{Call}
-use Rattle.board.specs.declared.Board.{Board}
+use Rattle.board_record.specs.declared.Board.{Board}
 use Rattle.board.specs.Board.{BoardCall, chipCalls, boardTo}
 
 unfoldable pub boardRunTo : Board → List BoardCall → Board

@@ -27,10 +27,11 @@ use Rattle.rules.specs.Event.{max3420e}
 use Rattle.spi.specs.Transfer.{transferReplyOf, transferRefusal, transferAnswer}
 use Rattle.bus.specs.EventCall.{eventAnswer, eventBuffer}
 use Rattle.bus.proofs.Call.{refusal-of}
-use Rattle.board.specs.declared.Board.{Board}
+use Rattle.board_record.specs.declared.Board.{Board}
 use Rattle.board.specs.declared.StepReply.the-variants as step
 use Rattle.step_transfers.specs.Step.{served, sudav}
-use Rattle.board.specs.Board.{soundBoard, repliedStep, stepReplyOf, stepFirmware, stepBuffer}
+use Rattle.board.specs.Board.{repliedStep, stepReplyOf, stepFirmware, stepBuffer}
+use Rattle.board_record.specs.Record.{soundBoard}
 use Rattle.board.specs.Board.{stepChecked, checkedCalls, boardTo, boardStep, stepRefusal}
 use Rattle.step_transfers.proofs.Setup.{served-accepted}
 use Rattle.flat.specs.Answer.{flatTransfer, flatEvent, flatStep, flatRequest}

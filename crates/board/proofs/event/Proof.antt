@@ -1,13 +1,14 @@
 -- `event` meets its promise: the chip's event, and the firmware's record put back where it starts anew.
 use mathlib.Core.Bool.{and-false}
-use Rattle.board.specs.Board.{startsAnew}
+use Rattle.board_record.specs.Record.{startsAnew}
 use mathlib.Core.Path.{_≡_}
 use mathlib.Core.Bool.{true, false}
 use mathlib.Core.Path.{refl, ap}
 use borrow.Author.Tests.{not-true, not-false}
 use Rattle.event_answer.specs.declared.EventAnswer.{EventAnswer}
 use Rattle.model.specs.Call.{runTo}
-use Rattle.board.specs.Board.{boardTo, firmwareFor}
+use Rattle.board.specs.Board.{boardTo}
+use Rattle.board_record.specs.Record.{firmwareFor}
 use borrow.Author.Needs.{needs}
 use Rattle.board.proofs.event.Statement.{statement}
 use Rattle.board.proofs.event.Tie as tie

@@ -1,7 +1,7 @@
 -- `Board::power_on` meets its promise: both records are what their own functions give.
 use borrow.Author.Needs.{needs}
-use Rattle.board.proofs.Board.power_on.Statement.{statement}
-use Rattle.board.proofs.Board.power_on.Tie as tie
+use Rattle.board_record.proofs.Board.power_on.Statement.{statement}
+use Rattle.board_record.proofs.Board.power_on.Tie as tie
 
 power-on-requires : tie.Need-power-on-requires
 power-on-requires c κs = search needs

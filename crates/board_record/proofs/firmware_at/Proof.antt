@@ -5,10 +5,10 @@ use Rattle.request.specs.declared.Firmware.{Firmware}
 use Rattle.request.specs.Record.{powerOnFirmware}
 use Rattle.model.specs.declared.Event.{Event}
 use Rattle.event_answer.specs.declared.EventReply.{EventReply}
-use Rattle.board.specs.Board.{isDone, startsAnew, firmwareFor}
+use Rattle.board_record.specs.Record.{isDone, startsAnew, firmwareFor}
 use borrow.Author.Needs.{needs}
-use Rattle.board.proofs.firmware_at.Statement.{statement}
-use Rattle.board.proofs.firmware_at.Tie as tie
+use Rattle.board_record.proofs.firmware_at.Statement.{statement}
+use Rattle.board_record.proofs.firmware_at.Tie as tie
 
 -- the test of the code is the definition's
 told : (f : Firmware) (e : Event) (a : EventReply) (t : Bool) {d : Bool} → d ≡ isDone a → (startsAnew e && d) ≡ t

@@ -1,7 +1,7 @@
 -- `Board::is_sound` meets its promise: both records' tests, joined.
 use borrow.Author.Needs.{needs}
-use Rattle.board.proofs.Board.is_sound.Statement.{statement}
-use Rattle.board.proofs.Board.is_sound.Tie as tie
+use Rattle.board_record.proofs.Board.is_sound.Statement.{statement}
+use Rattle.board_record.proofs.Board.is_sound.Tie as tie
 
 is-sound-requires : tie.Need-is-sound-requires
 is-sound-requires c κs = search needs
