@@ -7,10 +7,10 @@ use lib.ListN.{length}
 use borrow.Author.Needs.{needs}
 use Rattle.model.proofs.Loop.{Turn, start, turn, finish}
 use Rattle.rules.specs.Spi.{max3420eSpi}
-use Rattle.spi.specs.Control.{ReadsNoFifo}
-use Rattle.spi.proofs.Control.{read-step, kept}
-use Rattle.spi.proofs.read_controls.Statement.{statement}
-use Rattle.spi.proofs.read_controls.Tie as tie
+use Rattle.transfer_bursts.specs.Control.{ReadsNoFifo}
+use Rattle.transfer_bursts.proofs.Control.{read-step, kept}
+use Rattle.transfer_bursts.proofs.read_controls.Statement.{statement}
+use Rattle.transfer_bursts.proofs.read_controls.Tie as tie
 
 abbrev Inv-loop : tie.InvT-loop
 Inv-loop chip register bytes reply₀ selected₀ end i₀ reply selected i =

@@ -1,8 +1,8 @@
 -- `write_burst` meets its promise. A FIFO's burst is that of its endpoint, put back; no other register steps to a FIFO.
 use mathlib.Core.Path.{refl}
 use borrow.Author.Needs.{needs}
-use Rattle.spi.proofs.write_burst.Statement.{statement}
-use Rattle.spi.proofs.write_burst.Tie as tie
+use Rattle.transfer_bursts.proofs.write_burst.Statement.{statement}
+use Rattle.transfer_bursts.proofs.write_burst.Tie as tie
 
 write-ep0-requires : tie.Need-write-ep0-requires
 write-ep0-requires c κs = search needs

@@ -10,10 +10,10 @@ use borrow.Author.Needs.{needs}
 use Rattle.model.specs.Spi.{writeTo}
 use Rattle.model.proofs.Loop.{Turn, start, turn, finish}
 use Rattle.rules.specs.Spi.{max3420eSpi}
-use Rattle.spi.specs.Control.{WritesNoFifo}
-use Rattle.spi.proofs.Control.{written-step, plain}
-use Rattle.spi.proofs.write_controls.Statement.{statement}
-use Rattle.spi.proofs.write_controls.Tie as tie
+use Rattle.transfer_bursts.specs.Control.{WritesNoFifo}
+use Rattle.transfer_bursts.proofs.Control.{written-step, plain}
+use Rattle.transfer_bursts.proofs.write_controls.Statement.{statement}
+use Rattle.transfer_bursts.proofs.write_controls.Tie as tie
 
 abbrev Inv-loop : tie.InvT-loop
 Inv-loop chip₀ register bytes reply₀ selected₀ i₀ chip reply selected i =

@@ -1,7 +1,7 @@
 -- `read_burst` meets its promise. A FIFO's burst is that of its endpoint, put back; no other register steps to a FIFO.
 use borrow.Author.Needs.{needs}
-use Rattle.spi.proofs.read_burst.Statement.{statement}
-use Rattle.spi.proofs.read_burst.Tie as tie
+use Rattle.transfer_bursts.proofs.read_burst.Statement.{statement}
+use Rattle.transfer_bursts.proofs.read_burst.Tie as tie
 
 read-ep0-requires : tie.Need-read-ep0-requires
 read-ep0-requires c κs = search needs

@@ -10,7 +10,7 @@ use Rattle.model.specs.Spi.{writeTo, readTo}
 use Rattle.rules.specs.Spi.{stepRegister, max3420eSpi}
 use Rattle.registers.specs.Part.{plainRule}
 use Rattle.registers.proofs.Rest.{NoneOf, plain-others, kept-others}
-use Rattle.spi.specs.Control.{WritesNoFifo, ReadsNoFifo}
+use Rattle.transfer_bursts.specs.Control.{WritesNoFifo, ReadsNoFifo}
 
 -- the FIFOs, R0 to R4, stay selected, and no other register steps to one
 step-low : (n : ℕ) → n < 5 → stepRegister n ≡ n

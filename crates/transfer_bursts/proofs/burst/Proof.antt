@@ -1,7 +1,7 @@
 -- `burst` meets its promise. The test of the code is the definition's.
 use borrow.Author.Needs.{needs}
-use Rattle.spi.proofs.burst.Statement.{statement}
-use Rattle.spi.proofs.burst.Tie as tie
+use Rattle.transfer_bursts.proofs.burst.Statement.{statement}
+use Rattle.transfer_bursts.proofs.burst.Tie as tie
 
 write-burst-requires : tie.Need-write-burst-requires
 write-burst-requires c κs = search needs
