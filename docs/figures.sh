@@ -1,7 +1,7 @@
 #!/bin/sh
 # Writes the table between the two "figures" marks of docs/ARCHITECTURE.md anew, from what the gate printed:
 #     sh .ci/run >gate.log 2>&1; sh docs/figures.sh gate.log
-# Check time: seconds from nothing, the crates below it proved, two jobs. Lines: those that are not empty.
+# Check time: seconds from nothing, the crates below it proved, three jobs on two cores. Lines: those that are not empty.
 set -eu
 log=$(cd "$(dirname "$1")" && pwd)/$(basename "$1")
 cd "$(dirname "$0")/.."
