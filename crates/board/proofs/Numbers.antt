@@ -79,12 +79,21 @@ module _ (b : Board) where
       and-true (soundChip (b .chip)) (soundFirmware (b .firmware))
       (not-false (soundBoard b) (accepted-none ((not (soundBoard b), Unsound) ∷ (ltb room 64, ShortBuffer) ∷ []) e 0)) .1
 
+  step-numbers : (room : ℕ) → (stepRefusal (boardStep b room .reply) ≡ checkedNumber (stepChecked b room))
+      × (stepKind (boardStep b room .reply) ≡ steppedKind b (stepChecked b room))
+      × (stepCount (boardStep b room .reply) ≡ steppedCount b (stepChecked b room))
+  step-numbers room = checked-numbers (stepChecked b room) (accepted-sound room)
+
+  -- a step is refused with the number of its check
+  pub step-refusal : (room : ℕ) → stepRefusal (boardStep b room .reply) ≡ checkedNumber (stepChecked b room)
+  step-refusal room = step-numbers room .0
+
   -- an answer that is the definition's has its numbers
   pub step-told : (room : ℕ) {r : BoardStep} {E : Type 0} → (r ≡ boardStep b room) × E → (r ≡ boardStep b room) × E
       × (stepRefusal (r .reply) ≡ checkedNumber (stepChecked b room)) × (stepKind (r .reply) ≡ steppedKind b (stepChecked b room))
       × (stepCount (r .reply) ≡ steppedCount b (stepChecked b room))
   step-told room {r} e =
-      let n = checked-numbers (stepChecked b room) (accepted-sound room) in (
+      let n = step-numbers room in (
         e .0,
         e .1,
         ap (λ (x : BoardStep). stepRefusal (x .reply)) (e .0) ∙ n .0,

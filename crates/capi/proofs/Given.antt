@@ -1,19 +1,10 @@
 -- A refused call: the records come back as given, and no lent byte changes.
 use mathlib.Core.Path.{_≡_, refl, sym, _∙_}
-use mathlib.Core.Bool.{Bool, true, false, not, cond}
-use mathlib.Core.List.{List, [], _∷_}
+use mathlib.Core.List.{List}
 use Prim.Native.Nat.{ℕ, suc}
 use native.Mathlib.Omega.{arith}
-use lib.Dec.{ltb}
 use lib.ListN.{length}
-use Rattle.bits.proofs.Cases.{and-true}
-use Rattle.refusal.specs.declared.Refusal.{Refusal}
-use Rattle.refusal.specs.declared.Refusal.the-variants.{Unsound, ShortBuffer}
 use Rattle.chip.specs.declared.Chip.{Chip}
-use Rattle.chip.specs.Sound.{soundChip}
-use Rattle.request.specs.Record.{soundFirmware}
-use Rattle.firmware.specs.declared.RequestReply.{RequestReply}
-use Rattle.firmware.specs.declared.RequestReply.the-variants as request
 use Rattle.request.specs.Request.{requestOf}
 use Rattle.request.specs.declared.Firmware.{Firmware}
 use Rattle.firmware.specs.Answer.{requestRefusal, Handled, servedOf, handled}
@@ -21,19 +12,15 @@ use Rattle.firmware.proofs.Laws.{answer-each, served-each}
 use Rattle.model.specs.declared.Event.{Event}
 use Rattle.model.specs.declared.Checked.{Checked}
 use Rattle.model.specs.declared.Checked.the-variants.{Accepted, Refused}
-use Rattle.model.specs.Call.{Call, transfer, event, check, checked, checkedNumber}
+use Rattle.model.specs.Call.{Call, transfer, event, checked, checkedNumber}
 use Rattle.model.specs.Call.{checkedTo, checkedAnswer, callTo, answerOf, bufferAfter, runTo}
 use Rattle.rules.specs.Event.{max3420e}
 use Rattle.spi.specs.Transfer.{transferReplyOf, transferRefusal, transferAnswer}
 use Rattle.bus.specs.EventCall.{eventAnswer, eventBuffer}
 use Rattle.bus.proofs.Call.{refusal-of}
 use Rattle.board_record.specs.declared.Board.{Board}
-use Rattle.board.specs.declared.StepReply.the-variants as step
-use Rattle.step_transfers.specs.Step.{served, sudav}
-use Rattle.board.specs.Board.{repliedStep, stepReplyOf, stepFirmware, stepBuffer}
-use Rattle.board_record.specs.Record.{soundBoard}
-use Rattle.board.specs.Board.{stepChecked, checkedCalls, boardTo, boardStep, stepRefusal}
-use Rattle.step_transfers.proofs.Setup.{served-accepted}
+use Rattle.board.specs.Board.{stepChecked, stepFirmware, stepBuffer, checkedCalls, boardTo, boardStep}
+use Rattle.board.proofs.Numbers.{step-refusal}
 use Rattle.flat.specs.Answer.{flatTransfer, flatEvent, flatStep, flatRequest}
 
 -- ---- a call to the model
@@ -75,38 +62,18 @@ event-given c e vs buffer n h =
 
 -- ---- the board step
 
-replied-accepted : (t : Bool) (q : RequestReply) → ((r : Refusal) → q ≡ request.Refused r → requestRefusal (request.Refused r) ≡ 0)
-    → stepRefusal (cond t (repliedStep q) step.Idle) ≡ 0
-replied-accepted false q f = refl
-replied-accepted true (request.Refused r) f = f r refl
-replied-accepted true request.Stall f = refl
-replied-accepted true request.Ack f = refl
-replied-accepted true (request.Data n) f = refl
-
-abbrev stepTests : Bool → Bool → Checked
-stepTests sound short = check ((not sound, Unsound) ∷ (short, ShortBuffer) ∷ [])
-
-step-kept : (b : Board) (sound short : Bool) (buffer : List ℕ) (n : ℕ) → (sound ≡ true → soundFirmware (b .firmware) ≡ true)
-    → stepRefusal (stepReplyOf b (stepTests sound short)) ≡ suc n
-    → (runTo max3420e (b .chip) (checkedCalls b (stepTests sound short)) ≡ b .chip)
-    × (stepFirmware b (stepTests sound short) ≡ b .firmware)
-    × (stepBuffer b (stepTests sound short) buffer ≡ buffer)
+step-kept : (b : Board) (buffer : List ℕ) (n : ℕ) (v : Checked) → checkedNumber v ≡ suc n
+    → (runTo max3420e (b .chip) (checkedCalls b v) ≡ b .chip) × (stepFirmware b v ≡ b .firmware) × (stepBuffer b v buffer ≡ buffer)
 unfolding runTo
-step-kept b false short buffer n f h = (refl, refl, refl)
-step-kept b true true buffer n f h = (refl, refl, refl)
-step-kept b true false buffer n f h =
-    let q = served (b .chip) (b .firmware) .answer .reply in
-    let none : stepRefusal (cond (sudav (b .chip)) (repliedStep q) step.Idle) ≡ 0 =
-    replied-accepted (sudav (b .chip)) q (λ r e. served-accepted (b .chip) (b .firmware) r (f refl) e) in
-    let z : _≡_ {A = ℕ} 0 (suc n) = sym none ∙ h in
-    absurd (omega (arith, z))
+step-kept b buffer n Accepted e = absurd (omega (arith, e))
+step-kept b buffer n (Refused r) e = (refl, refl, refl)
 
 pub step-given : (b : Board) (buffer : List ℕ) (n : ℕ) → flatStep (boardStep b (length buffer)) .refusal ≡ suc n
     → (flatStep (boardStep b (length buffer)) .chip ≡ b .chip) × (flatStep (boardStep b (length buffer)) .firmware ≡ b .firmware)
     × (stepBuffer b (stepChecked b (length buffer)) buffer ≡ buffer)
 unfolding flatStep boardTo
-step-given b buffer n =
-    step-kept b (soundBoard b) (ltb (length buffer) 64) buffer n (λ s. and-true (soundChip (b .chip)) (soundFirmware (b .firmware)) s .1)
+step-given b buffer n h =
+    step-kept b buffer n (stepChecked b (length buffer)) (sym (step-refusal b (length buffer)) ∙ h)
 
 -- ---- the firmware's answer
 

@@ -1,5 +1,5 @@
 -- The board step reads eight bytes, so the firmware never refuses them; and what it replies does not depend on the lent bytes.
-use mathlib.Core.Path.{_≡_, refl, sym, ap, _∙_}
+use mathlib.Core.Path.{_≡_, refl, ap, _∙_}
 use mathlib.Core.Bool.{Bool, true, false, cond}
 use mathlib.Core.List.{List, _∷_, _++_}
 use Prim.Native.Nat.{ℕ, _-_, _≤_}
@@ -11,7 +11,6 @@ use native.Mathlib.Nat.{min-le-right}
 use borrow.Author.Tests.{eq-eqb, le-ltb}
 use Rattle.descriptor.specs.Send.{count}
 use Rattle.descriptor.specs.Table.{dataBytes}
-use Rattle.refusal.specs.declared.Refusal.{Refusal}
 use Rattle.chip.specs.declared.Chip.{Chip}
 use Rattle.request.specs.declared.Firmware.{Firmware}
 use Rattle.request.specs.declared.Decision.{Decision}
@@ -20,7 +19,7 @@ use Rattle.request.specs.declared.Endpoints.{Endpoints}
 use Rattle.request.specs.declared.Endpoints.the-variants.{Unchanged}
 use Rattle.request.specs.Record.{soundFirmware}
 use Rattle.request.specs.Request.{requestOf, decisionOf}
-use Rattle.firmware.specs.declared.RequestReply.the-variants.{Refused, Ack, Data}
+use Rattle.firmware.specs.declared.RequestReply.the-variants.{Ack, Data}
 use Rattle.firmware.specs.Answer.{handled, servedOf, decisionServed, requestRefusal}
 use Rattle.firmware.proofs.Laws.{handled-numbers}
 use Rattle.model.specs.Call.{callTo}
@@ -54,10 +53,6 @@ handled-lent setup f xs ys eight sound hx hy =
 pub firmware-accepts : (c : Chip) (f : Firmware) → soundFirmware f ≡ true → requestRefusal (served c f .answer .reply) ≡ 0
 firmware-accepts c f sound =
     handled-numbers (setupRead c) f (replicate 64 0) .refusal ∙ rw (sound, eq-eqb (length (setupRead c)) 8 (setup-length c))
-
-pub served-accepted : (c : Chip) (f : Firmware) (r : Refusal) → soundFirmware f ≡ true → served c f .answer .reply ≡ Refused r
-    → requestRefusal (Refused r) ≡ 0
-served-accepted c f r sound e = ap requestRefusal (sym e) ∙ firmware-accepts c f sound
 
 -- ---- what the code lends and gets
 
