@@ -23,7 +23,7 @@ enum max3420e_limit {
     MAX3420E_TRANSFER = 4096  /* bytes of a transfer, at most, the command byte among them */
 };
 
-/* Why a call is refused. The lowest number that applies is given. */
+/* Why a call is refused. They are looked at in the order of this list; the first that applies is given. */
 enum max3420e_refusal {
     MAX3420E_ACCEPTED = 0,
     MAX3420E_UNSOUND = 1,       /* a record is not sound; a flag that is neither 0 nor 1 makes it so */
@@ -31,7 +31,8 @@ enum max3420e_refusal {
     MAX3420E_LONG_TRANSFER = 3, /* a transfer has over 4,096 bytes */
     MAX3420E_SHORT_BUFFER = 4,  /* room is under the transfer's length, or under 64 for an IN or a board step */
     MAX3420E_UNKNOWN_EVENT = 5, /* an event code is not one of those below */
-    MAX3420E_BAD_PAYLOAD = 6,   /* an OUT payload is over 64 bytes, or a SETUP payload is not 8 */
+    MAX3420E_OUT_PAYLOAD = 6,   /* an OUT payload is over 64 bytes; `found` is its length */
+    MAX3420E_SETUP_PAYLOAD = 8, /* a SETUP payload is not 8 bytes; `found` is its length */
     MAX3420E_BAD_ADDRESS = 7    /* a transaction's address is over 127, or its endpoint over 15 */
 };
 
@@ -165,6 +166,7 @@ typedef struct {
     uint8_t pid;     /* enum max3420e_pid */
     uint16_t count;  /* bytes written to `reply` */
     uint8_t pin;     /* enum max3420e_pin */
+    size_t found;    /* the payload's length, if `refusal` is 6 or 8; else 0 */
 } max3420e_answer;
 
 typedef struct {
@@ -174,6 +176,7 @@ typedef struct {
     uint8_t kind;    /* enum max3420e_kind */
     uint16_t count;  /* bytes written to `reply` */
     uint8_t pin;     /* enum max3420e_pin */
+    size_t found;    /* 0: a step is never refused with 6 or 8 */
 } max3420e_board_answer;
 
 typedef struct {
@@ -182,6 +185,7 @@ typedef struct {
     uint8_t kind;      /* enum max3420e_kind; 0 where it is refused */
     uint8_t endpoints; /* what to write to R9 and R10 before the ACK: 0 nothing, 1 to end a halt, 2 to halt, 3 to configure */
     uint16_t count;    /* bytes written to `reply` */
+    size_t found;      /* how many setup bytes there are, if `refusal` is 8; else 0 */
 } max3420e_request_answer;
 
 /* The record at power-on. */
@@ -192,7 +196,7 @@ max3420e_chip max3420e_power_on(void);
 max3420e_answer max3420e_transfer(max3420e_chip chip, const uint8_t *bytes, size_t length, uint8_t *reply, size_t room);
 
 /* One event (enum max3420e_event_code). `damaged`, `data1`, `acknowledged`: 0 is no, anything else yes.
- * An IN writes the packet's bytes to `reply`. Refusals 1 and 4 to 7. */
+ * An IN writes the packet's bytes to `reply`. Refusals 1 and 4 to 8. */
 max3420e_answer max3420e_event(max3420e_chip chip, uint8_t code, uint8_t pins, uint8_t address, uint8_t endpoint,
                                uint8_t damaged, uint8_t data1, uint8_t acknowledged,
                                const uint8_t *payload, size_t length, uint8_t *reply, size_t room);
@@ -202,7 +206,7 @@ max3420e_answer max3420e_event(max3420e_chip chip, uint8_t code, uint8_t pins, u
 max3420e_board_answer max3420e_board_step(max3420e_chip chip, max3420e_firmware firmware, uint8_t *reply, size_t room);
 
 /* What the board's own firmware answers to eight setup bytes, without a chip; `reply` gets the bytes it would send.
- * Refusals 1, 4 and 6. Hold your own firmware's answers to it. */
+ * Refusals 1, 4 and 8. Hold your own firmware's answers to it. */
 max3420e_request_answer max3420e_firmware_answer(max3420e_firmware firmware, const uint8_t *setup, size_t length,
                                                  uint8_t *reply, size_t room);
 

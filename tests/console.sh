@@ -36,7 +36,7 @@ run() {
 
 # Every line is an answer with its pin, an error, or a line of show and help, which starts with a blank.
 answers_only() {
-    result='(reply|data|data0|data1)( [0-9A-F]{2})*|ok|silence|ack|nak|stall|idle|refused [1-7]'
+    result='(reply|data|data0|data1)( [0-9A-F]{2})*|ok|silence|ack|nak|stall|idle|refused ([1-57]|[68] found [0-9]+)'
     ! LC_ALL=C grep -a -q -v -E "^([0-9]+ (($result) int=(low|high|open)|error: .*)|  .*)$" "$1"
 }
 
@@ -54,12 +54,12 @@ script_like() {
     function many(n,  text) { text = ""; while (n-- > 0) text = text " " byte(); return text }
     function mark(word, odds) { return pick(odds) ? "" : " " word }
     function where() { return pick(9) ? " 00 0" pick(4) : " " byte() " " byte() }
-    function request() { return pick(3) ? " " requests[pick(8)] : many(8) }
+    function request() { return pick(3) ? " " requests[pick(8)] : many(pick(20) ? 8 : pick(20)) }
     function line(k) {
         if (k < 5) return "spi" many(1 + pick(6))
         if (k < 8) return "spi " registers[pick(10)] many(pick(4))
         if (k < 12) return "in" where() mark("lost", 3)
-        if (k < 16) return "out" where() " data" pick(2) mark("damaged", 9) many(pick(5))
+        if (k < 16) return "out" where() " data" pick(2) mark("damaged", 9) many(pick(40) ? pick(5) : 63 + pick(300))
         if (k < 18) return "setup 00 00" mark("damaged", 9) request()
         if (k < 20) return "step"
         if (k < 21) return events[pick(8)]
@@ -107,7 +107,8 @@ script_like >"$work/script"
 check "random lines" run script "$work/script"
 check "random lines: answers" answers_only "$work/script.out"
 check "random lines: a record that is reached is sound" [ "$(grep -c ' refused 1 ' "$work/script.out")" -eq 0 ]
-for result in 'reply' 'ok' 'silence' 'ack' 'nak' 'stall' 'data0' 'data1' 'data' 'idle' 'refused 5' 'refused 7' 'error:'; do
+for result in 'reply' 'ok' 'silence' 'ack' 'nak' 'stall' 'data0' 'data1' 'data' 'idle' 'refused 5' 'refused 6 found' 'refused 7' \
+    'refused 8 found' 'error:'; do
     check "random lines: some $result" grep -q "^[0-9]* $result" "$work/script.out"
 done
 
@@ -119,6 +120,10 @@ check "nothing to read" [ -z "$(answers '')" ]
 check "transfers of 4,096 and 4,097 bytes" run transfers "$work/transfers"
 check "the first is answered whole" [ "$(head -n 1 "$work/transfers.out" | wc -w)" -eq 4099 ]
 check "the other is refused" [ "$(tail -n 1 "$work/transfers.out")" = "2 refused 3 int=high" ]
+{ printf 'out 0 1 data0'; repeated 8000 ' 0'; printf '\nsetup 80 0'; repeated 264 ' 0'; echo; } >"$work/payloads"
+check "payloads of 8,000 and 264 bytes" run payloads "$work/payloads"
+check "both lengths are told" [ "$(tr '\n' ';' <"$work/payloads.out")" \
+    = "1 refused 6 found 8000 int=high;2 refused 8 found 264 int=high;" ]
 { printf 'step'; repeated 16380 ' '; printf '\nstep'; repeated 16381 ' '; printf '\nstep\n'; } >"$work/lines"
 check "lines of 16,384 and 16,385 bytes" run lines "$work/lines"
 check "the longer is an error, and it goes on" [ "$(sed 's/error: .*/error/' "$work/lines.out" | tr '\n' ';')" \

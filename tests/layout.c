@@ -56,11 +56,12 @@ static const field other_fields[] = {
     OF(max3420e_chip, registers), OF(max3420e_chip, power),
     OF(max3420e_firmware, configuration), OF(max3420e_firmware, wakeup), OF(max3420e_firmware, halted),
     OF(max3420e_answer, chip), OF(max3420e_answer, refusal), OF(max3420e_answer, pid), OF(max3420e_answer, count),
-    OF(max3420e_answer, pin),
+    OF(max3420e_answer, pin), OF(max3420e_answer, found),
     OF(max3420e_board_answer, chip), OF(max3420e_board_answer, firmware), OF(max3420e_board_answer, refusal),
     OF(max3420e_board_answer, kind), OF(max3420e_board_answer, count), OF(max3420e_board_answer, pin),
+    OF(max3420e_board_answer, found),
     OF(max3420e_request_answer, firmware), OF(max3420e_request_answer, refusal), OF(max3420e_request_answer, kind),
-    OF(max3420e_request_answer, endpoints), OF(max3420e_request_answer, count),
+    OF(max3420e_request_answer, endpoints), OF(max3420e_request_answer, count), OF(max3420e_request_answer, found),
 };
 
 static unsigned mismatches;
@@ -142,7 +143,7 @@ static void check_limits(const field *f)
             int sound = value <= f->limit && (value & f->unused) == 0;
             max3420e_answer answer = max3420e_transfer(chip, reply, 0, reply, 0);
             expect(answer.refusal == (sound ? MAX3420E_NO_COMMAND : MAX3420E_UNSOUND), f->name);
-            expect(answer.pid == 0 && answer.count == 0, "the answer of a refused transfer");
+            expect(answer.pid == 0 && answer.count == 0 && answer.found == 0, "the answer of a refused transfer");
             expect_same(&answer.chip, &chip, "a refused transfer changes it");
         }
 }
@@ -208,6 +209,26 @@ static void check_events(void)
     expect_same(&answer.chip, &next, "IN at endpoint 0");
 }
 
+/* A payload of a wrong length is told, whatever is lent and however far the address; any other refusal tells 0. */
+static void check_found(void)
+{
+    static const uint8_t payload[70000];
+    static const size_t out[] = {65, 66, 255, 256, 320, 65536, 70000}, setup[] = {0, 7, 9, 64, 264, 65544};
+    for (size_t i = 0; i < COUNT(out); i++) {
+        max3420e_answer answer = max3420e_event(distinct(), MAX3420E_OUT_TOKEN, 0, 200, 1, 0, 0, 0, payload, out[i], reply, 3);
+        expect(answer.refusal == MAX3420E_OUT_PAYLOAD && answer.found == out[i], "the length of an OUT payload");
+    }
+    for (size_t i = 0; i < COUNT(setup); i++) {
+        max3420e_firmware firmware = {1, 0, 0};
+        max3420e_answer answer = max3420e_event(distinct(), MAX3420E_SETUP_TOKEN, 0, 200, 0, 0, 0, 0, payload, setup[i], reply, 3);
+        expect(answer.refusal == MAX3420E_SETUP_PAYLOAD && answer.found == setup[i], "the length of a SETUP payload");
+        max3420e_request_answer request = max3420e_firmware_answer(firmware, payload, setup[i], reply, sizeof reply);
+        expect(request.refusal == MAX3420E_SETUP_PAYLOAD && request.found == setup[i], "the length of the setup bytes");
+    }
+    max3420e_answer answer = max3420e_event(distinct(), MAX3420E_SETUP_TOKEN, 0, 200, 0, 0, 0, 0, payload, 8, reply, 3);
+    expect(answer.refusal == MAX3420E_BAD_ADDRESS && answer.found == 0, "a far address");
+}
+
 /* The board's answer: the firmware's record handed back, and a device descriptor sent. */
 static void check_board(void)
 {
@@ -217,6 +238,7 @@ static void check_board(void)
         int sound = firmware.configuration <= 1 && firmware.wakeup <= 1 && firmware.halted <= firmware.configuration;
         max3420e_board_answer answer = max3420e_board_step(distinct(), firmware, reply, 0);
         expect(answer.refusal == (sound ? MAX3420E_SHORT_BUFFER : MAX3420E_UNSOUND), "the board's refusal");
+        expect(answer.found == 0, "the board's refusal tells no length");
         expect(memcmp(&answer.firmware, &firmware, sizeof firmware) == 0, "the firmware's record");
     }
     max3420e_chip chip = distinct();
@@ -239,7 +261,8 @@ static void check_firmware(void)
         max3420e_firmware firmware = {(uint8_t)(i & 3), (uint8_t)(i >> 2 & 3), (uint8_t)(i >> 4)};
         int sound = firmware.configuration <= 1 && firmware.wakeup <= 1 && firmware.halted <= firmware.configuration;
         max3420e_request_answer answer = max3420e_firmware_answer(firmware, device, 7, reply, sizeof reply);
-        expect(answer.refusal == (sound ? MAX3420E_BAD_PAYLOAD : MAX3420E_UNSOUND), "the firmware's refusal");
+        expect(answer.refusal == (sound ? MAX3420E_SETUP_PAYLOAD : MAX3420E_UNSOUND), "the firmware's refusal");
+        expect(answer.found == (sound ? 7 : 0), "the length that the firmware's refusal tells");
         expect(memcmp(&answer.firmware, &firmware, sizeof firmware) == 0, "the firmware's record");
     }
     max3420e_firmware plain = {0, 1, 0}, configured = {1, 1, 0}, halted = {1, 1, 1};
@@ -266,6 +289,7 @@ int main(void)
     check_transfers();
     check_registers();
     check_events();
+    check_found();
     check_board();
     check_firmware();
     if (mismatches > 0)

@@ -7,7 +7,7 @@ use crate::flips::{flipped, Flip};
 use crate::pin::pin_level;
 use crate::spi::transfer;
 
-/// `kind`: 0 idle, 1 stall, 2 ack, 3 data.
+/// `kind`: 0 idle, 1 stall, 2 ack, 3 data. `found` is 0: a step has no payload of its own.
 #[derive(Clone, Copy, Debug, PartialEq, Eq)]
 pub struct BoardAnswer {
     pub chip: Chip,
@@ -16,6 +16,7 @@ pub struct BoardAnswer {
     pub kind: u8,
     pub count: u16,
     pub pin: u8,
+    pub found: usize,
 }
 
 #[derive(Clone, Copy, Debug, PartialEq, Eq)]
@@ -31,7 +32,7 @@ pub fn board_step(chip: Chip, firmware: Firmware, reply: &mut [u8]) -> BoardAnsw
         (true, true) => 4,
         (true, false) => 0,
     };
-    let idle = BoardAnswer { chip, firmware, refusal, kind: IDLE, count: 0, pin: pin_level(&chip) };
+    let idle = BoardAnswer { chip, firmware, refusal, kind: IDLE, count: 0, pin: pin_level(&chip), found: 0 };
     if refusal != 0 || !chip.has(EPIRQ, SUDAVIRQ) {
         return idle;
     }
@@ -45,7 +46,7 @@ pub fn board_step(chip: Chip, firmware: Firmware, reply: &mut [u8]) -> BoardAnsw
         _ => {}
     }
     let FirmwareAnswer { firmware, kind, count, .. } = answer;
-    BoardAnswer { chip: after, firmware, refusal: 0, kind, count, pin: pin_level(&after) }
+    BoardAnswer { chip: after, firmware, refusal: 0, kind, count, pin: pin_level(&after), found: 0 }
 }
 
 /// Sends a transfer of the board's own; its reply.
@@ -101,7 +102,7 @@ fn write_halts(chip: &mut Chip, stalls: u8, toggles: u8) {
 /// An event of the board: power-on and a bus reset start that is seen put the firmware's record back.
 pub fn board_event(chip: Chip, firmware: Firmware, what: Event, payload: &[u8], reply: &mut [u8]) -> BoardEventAnswer {
     if !firmware.is_sound() {
-        let answer = Answer { chip, refusal: 1, pid: 0, count: 0, pin: pin_level(&chip) };
+        let answer = Answer { chip, refusal: 1, pid: 0, count: 0, pin: pin_level(&chip), found: 0 };
         return BoardEventAnswer { answer, firmware };
     }
     let resets = what.code == POWER_ON || what.code == RESET_START && sees_bus(&chip);

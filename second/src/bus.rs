@@ -65,24 +65,45 @@ impl Handshake {
 pub fn event(chip: Chip, event: Event, payload: &[u8], reply: &mut [u8]) -> Answer {
     let refusal = refusal(&chip, &event, payload.len(), reply.len());
     if refusal != 0 {
-        return Answer { chip, refusal, pid: 0, count: 0, pin: pin_level(&chip) };
+        let found = found(refusal, told_length(payload, reply));
+        return Answer { chip, refusal, pid: 0, count: 0, pin: pin_level(&chip), found };
     }
     let mut after = chip;
     let handshake = act(&mut after, &event, payload, reply);
-    Answer { chip: after, refusal: 0, pid: handshake.pid(), count: handshake.count(), pin: pin_level(&after) }
+    Answer { chip: after, refusal: 0, pid: handshake.pid(), count: handshake.count(), pin: pin_level(&after), found: 0 }
 }
 
+/// The length that refusals 6 and 8 tell.
+fn told_length(payload: &[u8], reply: &[u8]) -> usize {
+    let length = if flipped(Flip::FoundIsRoom) { reply.len() } else { payload.len() };
+    if flipped(Flip::FoundByte) {
+        length % 256
+    } else {
+        length
+    }
+}
+
+/// The grounds in the order of documents 01 and 02: 8 is looked at where 6 is, before 7 (Ask 1).
 fn refusal(chip: &Chip, event: &Event, length: usize, room: usize) -> u8 {
     let transaction = (SETUP_EVENT..=IN_EVENT).contains(&event.code);
+    let far = transaction && (event.address > 127 || event.endpoint > 15);
     if !chip.is_sound() {
         1
     } else if event.code == IN_EVENT && room < BUFFER && !flipped(Flip::ShortInRoom) {
         4
     } else if event.code < POWER_ON || event.code > IN_EVENT {
         5
-    } else if event.code == OUT_EVENT && length > BUFFER || event.code == SETUP_EVENT && length != SETUP {
+    } else if far && flipped(Flip::AddressFirst) {
+        7
+    } else if event.code == OUT_EVENT && length > BUFFER {
         6
-    } else if transaction && (event.address > 127 || event.endpoint > 15) {
+    } else if event.code == SETUP_EVENT && length != SETUP {
+        if flipped(Flip::SetupIsSix) {
+            6
+        } else {
+            8
+        }
+    } else if far {
         7
     } else {
         0

@@ -136,7 +136,8 @@ pub struct Chip {
     pub setup: u8,
 }
 
-/// The answer of a transfer or an event: `pid` is 0 where no packet is sent, `pin` 0 low, 1 high, 2 open.
+/// The answer of a transfer or an event: `pid` is 0 where no packet is sent, `pin` 0 low, 1 high, 2 open; `found` is the
+/// payload's length where `refusal` is 6 or 8, else 0.
 #[derive(Clone, Copy, Debug, PartialEq, Eq)]
 pub struct Answer {
     pub chip: Chip,
@@ -144,6 +145,15 @@ pub struct Answer {
     pub pid: u8,
     pub count: u16,
     pub pin: u8,
+    pub found: usize,
+}
+
+/// What a refusal tells of a payload's length (Ask 1).
+pub(crate) fn found(refusal: u8, length: usize) -> usize {
+    match refusal {
+        6 | 8 => length,
+        _ => 0,
+    }
 }
 
 impl Chip {

@@ -13,6 +13,7 @@ pub struct Given {
     pub pid: u8,
     pub count: u16,
     pub pin: u8,
+    pub found: usize,
 }
 
 /// A model: records by value in and out.
@@ -31,7 +32,7 @@ pub trait Other {
 /// This model, with flips for tests.
 #[derive(Clone, Copy, Default)]
 pub struct Second {
-    pub flips: u64,
+    pub flips: u128,
 }
 
 impl Other for Second {
@@ -42,19 +43,19 @@ impl Other for Second {
     }
 
     fn transfer(&self, chip: Chip, bytes: &[u8], reply: &mut [u8]) -> (Chip, Given) {
-        let Answer { chip, refusal, pid, count, pin } = with_flips(self.flips, || transfer(chip, bytes, reply));
-        (chip, Given { refusal, pid, count, pin })
+        let Answer { chip, refusal, pid, count, pin, found } = with_flips(self.flips, || transfer(chip, bytes, reply));
+        (chip, Given { refusal, pid, count, pin, found })
     }
 
     fn event(&self, chip: Chip, what: &Event, payload: &[u8], reply: &mut [u8]) -> (Chip, Given) {
-        let Answer { chip, refusal, pid, count, pin } = with_flips(self.flips, || event(chip, *what, payload, reply));
-        (chip, Given { refusal, pid, count, pin })
+        let Answer { chip, refusal, pid, count, pin, found } = with_flips(self.flips, || event(chip, *what, payload, reply));
+        (chip, Given { refusal, pid, count, pin, found })
     }
 
     fn board_step(&self, chip: Chip, firmware: Firmware, reply: &mut [u8]) -> (Chip, Firmware, Given) {
         let answer = with_flips(self.flips, || board_step(chip, firmware, reply));
-        let BoardAnswer { chip, firmware, refusal, kind, count, pin } = answer;
-        (chip, firmware, Given { refusal, pid: kind, count, pin })
+        let BoardAnswer { chip, firmware, refusal, kind, count, pin, found } = answer;
+        (chip, firmware, Given { refusal, pid: kind, count, pin, found })
     }
 
     fn poke(&self, chip: &mut Chip, field: usize, value: u8) {
@@ -121,7 +122,7 @@ impl<'m, M: Other> Side<'m, M> {
                 (chip, given)
             }
             Call::Poke { field, value } => {
-                (self.poked(chip, *field, *value), Given { refusal: 0, pid: 0, count: 0, pin: 0 })
+                (self.poked(chip, *field, *value), Given { refusal: 0, pid: 0, count: 0, pin: 0, found: 0 })
             }
         };
         self.chip = given.0;

@@ -114,6 +114,7 @@ pub struct Answer {
     pub pid: u8,
     pub count: u16,
     pub pin: u8,
+    pub found: usize,
 }
 
 /// `max3420e_board_answer`.
@@ -126,6 +127,7 @@ pub struct BoardAnswer {
     pub kind: u8,
     pub count: u16,
     pub pin: u8,
+    pub found: usize,
 }
 
 /// `max3420e_request_answer`.
@@ -137,18 +139,21 @@ pub struct RequestAnswer {
     pub kind: u8,
     pub endpoints: u8,
     pub count: u16,
+    pub found: usize,
 }
 
 // The header's offsets, as tests/layout.c prints them.
 const _: () = {
     use std::mem::offset_of;
-    assert!(size_of::<Chip>() == 430 && size_of::<Answer>() == 436 && size_of::<BoardAnswer>() == 440);
+    assert!(size_of::<Chip>() == 430 && size_of::<Answer>() == 448 && size_of::<BoardAnswer>() == 448);
     assert!(offset_of!(Chip, ep1) == 80 && offset_of!(Chip, ep2) == 214 && offset_of!(Chip, ep3) == 349);
     assert!(offset_of!(Chip, registers) == 417 && offset_of!(Chip, power) == 428);
     assert!(offset_of!(Answer, refusal) == 430 && offset_of!(Answer, count) == 432 && offset_of!(Answer, pin) == 434);
     assert!(offset_of!(BoardAnswer, firmware) == 430 && offset_of!(BoardAnswer, refusal) == 433);
     assert!(offset_of!(BoardAnswer, count) == 436 && offset_of!(BoardAnswer, pin) == 438);
-    assert!(size_of::<RequestAnswer>() == 8 && offset_of!(RequestAnswer, count) == 6);
+    assert!(offset_of!(Answer, found) == 440 && offset_of!(BoardAnswer, found) == 440);
+    assert!(size_of::<RequestAnswer>() == 16 && offset_of!(RequestAnswer, count) == 6);
+    assert!(offset_of!(RequestAnswer, found) == 8);
 };
 
 #[cfg(capi)]

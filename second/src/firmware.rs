@@ -33,7 +33,7 @@ pub enum Endpoints {
     Configure,
 }
 
-/// `kind`: 0 none (refused), 1 stall, 2 ack, 3 data.
+/// `kind`: 0 none (refused), 1 stall, 2 ack, 3 data. `found`: how many setup bytes there are, where `refusal` is 8.
 #[derive(Clone, Copy, Debug, PartialEq, Eq)]
 pub struct FirmwareAnswer {
     pub firmware: Firmware,
@@ -41,6 +41,7 @@ pub struct FirmwareAnswer {
     pub kind: u8,
     pub count: u16,
     pub endpoints: Endpoints,
+    pub found: usize,
 }
 
 pub const IDLE: u8 = 0;
@@ -57,7 +58,8 @@ enum Decision {
 /// Eight setup bytes, the firmware's record, 64 bytes or more lent for the reply.
 pub fn firmware_answer(setup: &[u8], firmware: Firmware, reply: &mut [u8]) -> FirmwareAnswer {
     let refusal = refusal(setup, &firmware, reply.len());
-    let plain = FirmwareAnswer { firmware, refusal, kind: IDLE, count: 0, endpoints: Endpoints::Unchanged };
+    let found = found(refusal, setup.len());
+    let plain = FirmwareAnswer { firmware, refusal, kind: IDLE, count: 0, endpoints: Endpoints::Unchanged, found };
     if refusal != 0 {
         return plain;
     }
@@ -80,7 +82,7 @@ fn refusal(setup: &[u8], firmware: &Firmware, room: usize) -> u8 {
     } else if room < BUFFER {
         4
     } else if setup.len() != SETUP {
-        6
+        8
     } else {
         0
     }

@@ -77,12 +77,16 @@ flips! {
     IndexLowByte = "the firmware looks at wIndex's low byte only",
     EdgePolarity = "edge mode takes POSINT the other way",
     ShortInRoom = "IN is not refused for a short buffer",
+    SetupIsSix = "a SETUP payload that is not 8 bytes is refused with 6",
+    AddressFirst = "a far address is looked at before a payload's length",
+    FoundIsRoom = "the length found is that of the lent buffer",
+    FoundByte = "the length found is cut to a byte",
 }
 
-const _: () = assert!(ALL.len() <= 64);
+const _: () = assert!(ALL.len() <= 128);
 
 thread_local! {
-    static FLIPS: Cell<u64> = const { Cell::new(0) };
+    static FLIPS: Cell<u128> = const { Cell::new(0) };
 }
 
 /// Does the model follow the flipped rule?
@@ -92,7 +96,7 @@ pub(crate) fn flipped(flip: Flip) -> bool {
 }
 
 /// Runs `call` with the given flips, and with none afterwards.
-pub fn with_flips<T>(set: u64, call: impl FnOnce() -> T) -> T {
+pub fn with_flips<T>(set: u128, call: impl FnOnce() -> T) -> T {
     FLIPS.with(|flips| flips.set(set));
     let result = call();
     FLIPS.with(|flips| flips.set(0));

@@ -131,21 +131,21 @@ mod linked {
         }
 
         fn transfer(&self, chip: ffi::Chip, bytes: &[u8], reply: &mut [u8]) -> (ffi::Chip, Given) {
-            let ffi::Answer { chip, refusal, pid, count, pin } = ffi::transfer(chip, bytes, reply);
-            (chip, Given { refusal, pid, count, pin })
+            let ffi::Answer { chip, refusal, pid, count, pin, found } = ffi::transfer(chip, bytes, reply);
+            (chip, Given { refusal, pid, count, pin, found })
         }
 
         fn event(&self, chip: ffi::Chip, what: &Event, payload: &[u8], reply: &mut [u8]) -> (ffi::Chip, Given) {
-            let ffi::Answer { chip, refusal, pid, count, pin } = ffi::event(chip, what, payload, reply);
-            (chip, Given { refusal, pid, count, pin })
+            let ffi::Answer { chip, refusal, pid, count, pin, found } = ffi::event(chip, what, payload, reply);
+            (chip, Given { refusal, pid, count, pin, found })
         }
 
         fn board_step(&self, chip: ffi::Chip, firmware: Firmware, reply: &mut [u8]) -> (ffi::Chip, Firmware, Given) {
             let Firmware { configuration, wakeup, halted } = firmware;
             let answer = ffi::board_step(chip, ffi::Firmware { configuration, wakeup, halted }, reply);
-            let ffi::BoardAnswer { chip, firmware, refusal, kind, count, pin } = answer;
+            let ffi::BoardAnswer { chip, firmware, refusal, kind, count, pin, found } = answer;
             let ffi::Firmware { configuration, wakeup, halted } = firmware;
-            (chip, Firmware { configuration, wakeup, halted }, Given { refusal, pid: kind, count, pin })
+            (chip, Firmware { configuration, wakeup, halted }, Given { refusal, pid: kind, count, pin, found })
         }
 
         fn poke(&self, chip: &mut ffi::Chip, field: usize, value: u8) {

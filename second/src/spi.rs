@@ -9,11 +9,11 @@ use crate::registers::{read_register, write_register};
 pub fn transfer(chip: Chip, bytes: &[u8], reply: &mut [u8]) -> Answer {
     let refusal = refusal(&chip, bytes, reply.len());
     if refusal != 0 {
-        return Answer { chip, refusal, pid: 0, count: 0, pin: pin_level(&chip) };
+        return Answer { chip, refusal, pid: 0, count: 0, pin: pin_level(&chip), found: 0 };
     }
     let mut after = chip;
     burst(&mut after, bytes, reply);
-    Answer { chip: after, refusal: 0, pid: 0, count: bytes.len() as u16, pin: pin_level(&after) }
+    Answer { chip: after, refusal: 0, pid: 0, count: bytes.len() as u16, pin: pin_level(&after), found: 0 }
 }
 
 fn refusal(chip: &Chip, bytes: &[u8], room: usize) -> u8 {

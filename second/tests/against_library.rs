@@ -14,7 +14,7 @@ mod linked {
     use second::noticed::unnoticed_flips;
     use second::runs::*;
     use second::script::script;
-    use second::{ffi, firmware_answer, Endpoints, Firmware};
+    use second::{ffi, firmware_answer, Endpoints, Firmware, FirmwareAnswer};
 
     const RIGHT: Second = Second { flips: 0 };
 
@@ -117,7 +117,7 @@ mod linked {
                 let setup = [kind, code].into_iter().chain((0..7).map(|_| rng.pick(&fields))).collect::<Vec<u8>>();
                 let (configuration, wakeup, halted) =
                     (rng.pick(&[0, 1, 1, 2]), rng.pick(&[0, 1, 1, 2]), rng.pick(&[0, 0, 1, 2]));
-                let (length, room) = (rng.pick(&[8, 8, 8, 8, 8, 8, 7, 9]), rng.pick(&[64, 80, 80, 80, 63]));
+                let (length, room) = (rng.pick(&[8, 8, 8, 8, 8, 8, 0, 7, 9]), rng.pick(&[64, 80, 80, 80, 63]));
                 let (mut left, mut right) = ([0xEE; 80], [0xEE; 80]);
                 let firmware = ffi::Firmware { configuration, wakeup, halted };
                 let theirs = ffi::firmware_answer(firmware, &setup[..length], &mut left[..room]);
@@ -130,8 +130,8 @@ mod linked {
                     Endpoints::SetHalt => 2,
                     Endpoints::Configure => 3,
                 };
-                let ours =
-                    ffi::RequestAnswer { firmware, refusal: ours.refusal, kind: ours.kind, endpoints, count: ours.count };
+                let FirmwareAnswer { refusal, kind, count, found, .. } = ours;
+                let ours = ffi::RequestAnswer { firmware, refusal, kind, endpoints, count, found };
                 assert_eq!((theirs, left), (ours, right), "setup bytes {:02X?}, room {room}", &setup[..length]);
             }
         }

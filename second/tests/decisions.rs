@@ -127,10 +127,14 @@ fn pin_and_board() {
 }
 
 #[test]
-fn refusals_9_and_11() {
+fn refusals_9_11_and_62() {
     let far = Event { code: OUT_EVENT, address: 200, ..Event::default() };
-    assert_eq!(event(Chip::power_on(), far, &[0; 65], &mut []).refusal, 6);
-    assert_eq!(event(Chip::power_on(), far, &[0; 64], &mut []).refusal, 7);
+    let told = |code: u8, length: usize| {
+        let answer = event(Chip::power_on(), Event { code, ..far }, &vec![0; length], &mut [0; 2]);
+        (answer.refusal, answer.found)
+    };
+    assert_eq!([told(OUT_EVENT, 65), told(OUT_EVENT, 320), told(OUT_EVENT, 64)], [(6, 65), (6, 320), (7, 0)]);
+    assert_eq!([told(SETUP_EVENT, 0), told(SETUP_EVENT, 264), told(SETUP_EVENT, 8)], [(8, 0), (8, 264), (7, 0)]);
     assert_eq!(event(Chip::power_on(), Event { code: IN_EVENT, ..far }, &[], &mut [0; 63]).refusal, 4);
     assert_eq!(board_step(Chip::power_on(), Firmware::power_on(), &mut [0; 63]).refusal, 4);
     let unsound = Chip { r4_read: 9, ..Chip::power_on() };

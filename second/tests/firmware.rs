@@ -50,8 +50,10 @@ fn beyond_the_listing() {
 fn refusals() {
     let wrong = Firmware { configuration: 0, wakeup: 0, halted: 1 };
     let right = Firmware::power_on();
-    let refusal =
-        |n: usize, firmware: Firmware, room: usize| firmware_answer(&vec![0; n], firmware, &mut vec![0; room]).refusal;
-    assert_eq!([refusal(7, wrong, 63), refusal(7, right, 63), refusal(7, right, 64)], [1, 4, 6]);
-    assert_eq!([refusal(9, right, 64), refusal(8, right, 64)], [6, 0]);
+    let refusal = |n: usize, firmware: Firmware, room: usize| {
+        let answer = firmware_answer(&vec![0; n], firmware, &mut vec![0; room]);
+        (answer.refusal, answer.found)
+    };
+    assert_eq!([refusal(7, wrong, 63), refusal(7, right, 63), refusal(7, right, 64)], [(1, 0), (4, 0), (8, 7)]);
+    assert_eq!([refusal(9, right, 64), refusal(8, right, 64), refusal(264, right, 64)], [(8, 9), (0, 0), (8, 264)]);
 }

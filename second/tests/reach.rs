@@ -169,7 +169,7 @@ fn wanted() -> Vec<String> {
     }
     all.extend([0, 2, 3, 4].iter().map(|n| format!("transfer refusal {n}")));
     all.extend((0..=12).map(|code| format!("event {code} refusal {}", if code == 0 { 5 } else { 0 })));
-    all.extend(["event 12 refusal 4", "event 13 refusal 5", "event 10 refusal 6", "event 11 refusal 6"].map(String::from));
+    all.extend(["event 12 refusal 4", "event 13 refusal 5", "event 10 refusal 8", "event 11 refusal 6"].map(String::from));
     all.extend((10..=12).map(|code| format!("event {code} refusal 7")));
     all.extend((0..=3).map(|kind| format!("step refusal 0 kind {kind}")));
     all.push("step refusal 4 kind 0".to_string());

@@ -8,11 +8,18 @@ use output::Output;
 use refusal::Refusal;
 use spi::TransferReply;
 
+// Its number, and the length that a payload's refusal tells.
 fn put_refusal(refusal: Refusal, page: &mut [u8], output: Output) -> Output
     ensures { λ r. ⌜ r .filled ≤ length (now (page .entry)) ⌝ }
 {
-    let next = output::put(b"refused ", page, output);
-    output::put_decimal(refusal.number() as u64, page, next)
+    let number = refusal.number();
+    let lead = output::put(b"refused ", page, output);
+    let next = output::put_decimal(number as u64, page, lead);
+    if (number == 6) | (number == 8) {
+        let found = output::put(b" found ", page, next);
+        return output::put_decimal(refusal.found() as u64, page, found);
+    }
+    next
 }
 
 fn put_transfer(reply: TransferReply, bytes: &[u8], page: &mut [u8], output: Output) -> Output

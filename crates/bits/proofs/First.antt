@@ -1,13 +1,13 @@
--- Laws of rules in a row: what holds of what they give, which tests an outcome tells of, the lowest number that applies; and of
--- a change that is made unless a test holds.
+-- Laws of rules in a row: what holds of what they give, which tests an outcome tells of, which rule decides; and of a change that is
+-- made unless a test holds.
 use mathlib.Core.Path.{_≡_, refl, sym, ap, _∙_, subst}
 use mathlib.Core.Bool.{Bool, true, false, not, cond, _&&_}
 use mathlib.Core.List.{List, [], _∷_, map}
 use Prim.Native.Nat.{ℕ, zero, suc, _≤_, _<_}
-use native.Mathlib.Nat.{lt-trans, le-of-lt}
+use native.Mathlib.Nat.{lt-trans}
 use native.Mathlib.Omega.{arith}
 use lib.Dec.{ltb}
-use lib.ListN.{getD}
+use lib.ListN.{length, getD}
 use borrow.Author.Tests.{ltb-true}
 use Rattle.bits.specs.First.{firstOf, unless}
 use Rattle.bits.proofs.Cases.{cond-elim, cond-elim₂, cond-map, and-true, true-is-false}
@@ -79,46 +79,93 @@ pub first-last : {A : Type 0} (rules : List (Bool × A)) (z : A) → ((i : ℕ) 
 first-last [] z h = refl
 first-last (rule ∷ rules) z h = ap (λ (t : Bool). cond t (rule .1) (firstOf rules z)) (h 0) ∙ first-last rules z (λ i. h (suc i))
 
--- ---- numbered outcomes: where the numbers go upwards, the lowest that applies is given
+-- ---- the rule that decides
 
-module _ {A : Type 0} (number : A → ℕ) where
-  -- the numbers go upwards, from above n
+-- rule i applies, and none before it does
+pub record FirstAt {A : Type 0} (rules : List (Bool × A)) (i : ℕ) : Type 0 where
+  pub applies : testAt rules i ≡ true
+  pub before : (j : ℕ) → j < i → testAt rules j ≡ false
+
+-- what rule i gives; z where there is no such rule
+abbrev pub outcomeAt : {A : Type 0} → A → List (Bool × A) → ℕ → A
+outcomeAt z [] i = z
+outcomeAt z (rule ∷ rules) zero = rule .1
+outcomeAt z (rule ∷ rules) (suc i) = outcomeAt z rules i
+
+module _ {A : Type 0} (rule : Bool × A) (rules : List (Bool × A)) where
+  -- the first rule applies
+  first-now : rule .0 ≡ true → FirstAt (rule ∷ rules) 0
+  first-now t = record { applies = t; before = λ j h. absurd (omega arith) }
+
+  -- it does not, so the first of the others decides
+  first-later : (i : ℕ) → rule .0 ≡ false → FirstAt rules i → FirstAt (rule ∷ rules) (suc i)
+  first-later i t f = record { applies = f .applies; before = λ j h. earlier j h }
+    where
+      earlier : (j : ℕ) → j < suc i → testAt (rule ∷ rules) j ≡ false
+      earlier zero h = t
+      earlier (suc j) h = f .before j (omega arith)
+
+  first-rest : (i : ℕ) → FirstAt (rule ∷ rules) (suc i) → FirstAt rules i
+  first-rest i f = record { applies = f .applies; before = λ j h. f .before (suc j) (omega arith) }
+
+-- what the first rule that applies gives is given
+pub first-at : {A : Type 0} (rules : List (Bool × A)) (z : A) (i : ℕ) → FirstAt rules i → firstOf rules z ≡ outcomeAt z rules i
+first-at [] z i f = refl
+first-at (rule ∷ rules) z zero f = ap (λ (t : Bool). cond t (rule .1) (firstOf rules z)) (f .applies)
+first-at (rule ∷ rules) z (suc i) f =
+    ap (λ (t : Bool). cond t (rule .1) (firstOf rules z)) (f .before 0 (omega arith)) ∙ first-at rules z i (first-rest rule rules i f)
+
+-- ---- ranked outcomes
+
+module _ {A : Type 0} (rank : A → ℕ) where
+  -- the ranks go upwards, from above n
   abbrev pub ascending : ℕ → List (Bool × A) → Bool
   ascending n [] = true
-  ascending n (rule ∷ rules) = ltb n (number (rule .1)) && ascending (number (rule .1)) rules
+  ascending n (rule ∷ rules) = ltb n (rank (rule .1)) && ascending (rank (rule .1)) rules
 
-  -- the number of rule i's outcome; n where there is none
-  abbrev pub numberAt : ℕ → List (Bool × A) → ℕ → ℕ
-  numberAt n [] i = n
-  numberAt n (rule ∷ rules) zero = number (rule .1)
-  numberAt n (rule ∷ rules) (suc i) = numberAt n rules i
+module _ {A : Type 0} (rank : A → ℕ) where
+  ascends : (n : ℕ) (rule : Bool × A) (rules : List (Bool × A)) → ascending rank n (rule ∷ rules) ≡ true
+      → (n < rank (rule .1)) × (ascending rank (rank (rule .1)) rules ≡ true)
+  ascends n rule rules a =
+      let both = and-true (ltb n (rank (rule .1))) (ascending rank (rank (rule .1)) rules) a in
+      (ltb-true n (rank (rule .1)) (both .0), both .1)
 
-module _ {A : Type 0} (number : A → ℕ) where
-  ascends-above : (n m : ℕ) (rules : List (Bool × A)) → ascending number n rules ≡ true → (i : ℕ) → testAt rules i ≡ true
-      → n < numberAt number m rules i
-  ascends-above n m [] a i t = true-is-false (sym t)
-  ascends-above n m (rule ∷ rules) a zero t =
-      ltb-true n (number (rule .1)) (and-true (ltb n (number (rule .1))) (ascending number (number (rule .1)) rules) a .0)
-  ascends-above n m (rule ∷ rules) a (suc i) t =
-      let both = and-true (ltb n (number (rule .1))) (ascending number (number (rule .1)) rules) a in
-      lt-trans (ltb-true n (number (rule .1)) (both .0)) (ascends-above (number (rule .1)) m rules (both .1) i t)
+  -- so no outcome has a rank that is not above n
+  each-other : (n m : ℕ) (rules : List (Bool × A)) → n ≤ m → ascending rank m rules ≡ true → Each (λ (x : A). rank x ≡ n → ⊥) rules
+  each-other n m [] h a = none
+  each-other n m (rule ∷ rules) h a =
+      let both = ascends m rule rules a in
+      (λ (t : rule .0 ≡ true) (e : rank (rule .1) ≡ n). omega (arith, e, both .0)) ⨾
+      each-other n (rank (rule .1)) rules (omega (arith, both .0)) (both .1)
 
-  -- no rule that applies has a lower number than what is given
-  pub first-lowest : (n m : ℕ) (rules : List (Bool × A)) (z : A) → ascending number n rules ≡ true → (i : ℕ) → testAt rules i ≡ true
-      → number (firstOf rules z) ≤ numberAt number m rules i
-  first-lowest n m [] z a i t = true-is-false (sym t)
-  first-lowest n m (rule ∷ rules) z a i t =
-      let rest = and-true (ltb n (number (rule .1))) (ascending number (number (rule .1)) rules) a .1 in
-      by (rule .0) refl rest (λ j. first-lowest (number (rule .1)) m rules z rest j) i t
+  outcome-above : (n : ℕ) (rules : List (Bool × A)) (z : A) (i : ℕ) → ascending rank n rules ≡ true → i < length rules
+      → n < rank (outcomeAt z rules i)
+  outcome-above n [] z i a h = absurd (omega arith)
+  outcome-above n (rule ∷ rules) z zero a h = ascends n rule rules a .0
+  outcome-above n (rule ∷ rules) z (suc i) a h =
+      let both = ascends n rule rules a in
+      lt-trans (both .0) (outcome-above (rank (rule .1)) rules z i (both .1) (omega arith))
+
+  -- where the ranks go upwards, from above that of the last argument, an outcome is given by its own rule only
+  pub first-only : (n : ℕ) (rules : List (Bool × A)) (z : A) (i : ℕ) → ascending rank n rules ≡ true → rank z ≤ n → i < length rules
+      → rank (firstOf rules z) ≡ rank (outcomeAt z rules i) → FirstAt rules i
+  first-only n [] z i a low h e = absurd (omega arith)
+  first-only n (rule ∷ rules) z i a low h e =
+      let both = ascends n rule rules a in
+      by (rule .0) refl (both .0) (both .1)
+      (λ j. first-only (rank (rule .1)) rules z j (both .1) (omega (arith, both .0, low))) i h e
     where
-      by : (s : Bool) → rule .0 ≡ s → ascending number (number (rule .1)) rules ≡ true
-          → ((j : ℕ) → testAt rules j ≡ true → number (firstOf rules z) ≤ numberAt number m rules j) → (i : ℕ) → testAt (rule ∷ rules) i
-          ≡ true
-          → number (cond s (rule .1) (firstOf rules z)) ≤ numberAt number m (rule ∷ rules) i
-      by true e rest later zero t = omega arith
-      by true e rest later (suc i) t = le-of-lt (ascends-above (number (rule .1)) m rules rest i t)
-      by false e rest later zero t = true-is-false (sym t ∙ e)
-      by false e rest later (suc i) t = later i t
+      by : (t : Bool) → rule .0 ≡ t → n < rank (rule .1) → ascending rank (rank (rule .1)) rules ≡ true
+          → ((j : ℕ) → j < length rules → rank (firstOf rules z) ≡ rank (outcomeAt z rules j) → FirstAt rules j) → (i : ℕ)
+          → i < suc (length rules) → rank (cond t (rule .1) (firstOf rules z)) ≡ rank (outcomeAt z (rule ∷ rules) i)
+          → FirstAt (rule ∷ rules) i
+      by true t above rest later zero h e = first-now rule rules t
+      by true t above rest later (suc i) h e =
+          absurd (omega (arith, e, outcome-above (rank (rule .1)) rules z i rest (omega arith)))
+      by false t above rest later zero h e =
+          absurd (first-each (λ (x : A). rank x ≡ rank (rule .1) → ⊥) rules z
+          (each-other (rank (rule .1)) (rank (rule .1)) rules (omega arith) rest) (λ r. omega (arith, above, low)) e)
+      by false t above rest later (suc i) h e = first-later rule rules i t (later i (omega arith) e)
 
 -- ---- a change that is made unless a test holds
 

@@ -1,18 +1,19 @@
 -- Calls to the board: the chip calls that each makes, the records after it, and its answer.
-use mathlib.Core.Bool.{not, cond}
+use mathlib.Core.Bool.{Bool, not, cond}
 use mathlib.Core.List.{List, [], _∷_}
 use Prim.Native.Nat.{ℕ}
 use lib.Dec.{ltb}
-use Rattle.refusal.specs.Number.{refusalNumber}
+use Rattle.refusal.specs.declared.Refusal.{Refusal}
 use Rattle.refusal.specs.declared.Refusal.the-variants.{Unsound, ShortBuffer}
+use Rattle.refusal.specs.declared.Checked.{Checked}
+use Rattle.refusal.specs.declared.Checked.the-variants.{Accepted, Refused}
+use Rattle.refusal.specs.Check.{check, checkedNumber, checkedFound}
 use Rattle.request.specs.declared.Firmware.{Firmware}
 use Rattle.request.specs.Record.{soundFirmware}
 use Rattle.firmware.specs.declared.RequestReply.{RequestReply}
 use Rattle.firmware.specs.declared.RequestReply.the-variants as request
 use Rattle.firmware.specs.Answer.{handled, requestKind, requestCount}
-use Rattle.model.specs.declared.Checked.{Checked}
-use Rattle.model.specs.declared.Checked.the-variants.{Accepted, Refused}
-use Rattle.model.specs.Call.{Call, transfer, event, Answer, refused, check, checked, answerOf, runTo}
+use Rattle.model.specs.Call.{Call, transfer, event, Answer, refused, checked, answerOf, runTo}
 use Rattle.rules.specs.Event.{max3420e}
 use Rattle.board_record.specs.declared.Board.{Board}
 use Rattle.board_record.specs.Record.{soundBoard, firmwareFor}
@@ -45,8 +46,11 @@ firmwareAt f (event e payload room) a = firmwareFor f e (eventReplyOf a)
 
 -- ---- the step: 1 if either record is not sound, 4 for a buffer under 64 bytes whatever SUDAVIRQ is (decision 9)
 
+abbrev pub stepGrounds : Board → ℕ → List (Bool × Refusal)
+stepGrounds b room = (not (soundBoard b), Unsound) ∷ (ltb room 64, ShortBuffer) ∷ []
+
 abbrev pub stepChecked : Board → ℕ → Checked
-stepChecked b room = check ((not (soundBoard b), Unsound) ∷ (ltb room 64, ShortBuffer) ∷ [])
+stepChecked b room = check (stepGrounds b room)
 
 -- it replies as the firmware does
 abbrev pub repliedStep : RequestReply → StepReply
@@ -86,13 +90,20 @@ boardTo b k = record { chip = runTo max3420e (b .chip) (chipCalls b k); firmware
 
 -- ---- numbers of the step's reply
 
--- the number of refusal; 0 is none
+-- what a reply tells of the check
+abbrev pub stepTells : StepReply → Checked
+stepTells (step.Refused r) = Refused r
+stepTells step.Idle = Accepted
+stepTells step.Stall = Accepted
+stepTells step.Ack = Accepted
+stepTells (step.Data n) = Accepted
+
+-- the number of refusal, and the length that it tells (never one: `step-never-8`); 0 is none
 abbrev pub stepRefusal : StepReply → ℕ
-stepRefusal (step.Refused r) = refusalNumber r
-stepRefusal step.Idle = 0
-stepRefusal step.Stall = 0
-stepRefusal step.Ack = 0
-stepRefusal (step.Data n) = 0
+stepRefusal r = checkedNumber (stepTells r)
+
+abbrev pub stepFound : StepReply → ℕ
+stepFound r = checkedFound (stepTells r)
 
 -- 0 idle, or refused; 1 stall, 2 ack, 3 data
 abbrev pub stepKind : StepReply → ℕ

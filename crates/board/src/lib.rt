@@ -12,17 +12,18 @@ ghost use mathlib.Core.Path.{_≡_};
 ghost use mathlib.Core.Bool.{true};
 ghost use Prim.Native.Nat.{_≤_};
 ghost use lib.ListN.{length};
+ghost use Rattle.refusal.specs.Check.{unlessRefused};
 ghost use Rattle.chip.specs.Sound.{soundChip};
 ghost use Rattle.firmware.specs.Answer.{handled};
 ghost use Rattle.request.specs.Record.{soundFirmware};
-ghost use Rattle.model.specs.Call.{Call, runTo, bufferAfter, checkedNumber};
-ghost use Rattle.spi.specs.Transfer.{transferRefusal, transferCount, transferredCount};
-ghost use Rattle.bus.specs.EventCall.{eventRefusal, eventPid, eventCount, answerPid, answerCount};
+ghost use Rattle.model.specs.Call.{Call, runTo, bufferAfter};
+ghost use Rattle.spi.specs.Transfer.{transferTells, transferCount};
+ghost use Rattle.bus.specs.EventCall.{eventTells, eventPid, eventCount, answerPid, answerCount};
 ghost use Rattle.rules.specs.Event.{max3420e};
 ghost use Rattle.step_transfers.specs.Step.{setupRead, served, setupCalls};
 ghost use Rattle.board.specs.Board.{boardAnswer, repliedStep, stepChecked, stepBuffer};
 ghost use Rattle.board.specs.Board.{steppedWith, boardStep, boardTransfer, boardEvent, boardChecked};
-ghost use Rattle.board.specs.Board.{stepRefusal, stepKind, stepCount, steppedKind, steppedCount};
+ghost use Rattle.board.specs.Board.{stepTells, stepKind, stepCount, steppedKind, steppedCount};
 
 // Why a step is refused; nothing to serve; or what the firmware replied.
 pub enum StepReply {
@@ -112,7 +113,7 @@ fn reply_of(reply: RequestReply) -> StepReply
 pub fn step(board: Board, reply: &mut [u8]) -> BoardStep
     ensures { λ r. ⌜ (r ≡ boardStep board (length (now (reply .entry))))
         × (now (reply .exit) ≡ stepBuffer board (stepChecked board (length (now (reply .entry)))) (now (reply .entry)))
-        × (stepRefusal (r .reply) ≡ checkedNumber (stepChecked board (length (now (reply .entry)))))
+        × (stepTells (r .reply) ≡ stepChecked board (length (now (reply .entry))))
         × (stepKind (r .reply) ≡ steppedKind board (stepChecked board (length (now (reply .entry)))))
         × (stepCount (r .reply) ≡ steppedCount board (stepChecked board (length (now (reply .entry))))) ⌝ }
 {
@@ -136,10 +137,9 @@ pub fn transfer(board: Board, bytes: &[u8], reply: &mut [u8]) -> BoardTransfer
     ensures { λ r. ⌜ (r ≡ boardTransfer board (Call.transfer (now (bytes .entry)) (length (now (reply .entry)))))
         × (now (reply .exit)
         ≡ bufferAfter (boardAnswer board (Call.transfer (now (bytes .entry)) (length (now (reply .entry))))) (now (reply .entry)))
-        × (transferRefusal (r .reply)
-        ≡ checkedNumber (boardChecked board (Call.transfer (now (bytes .entry)) (length (now (reply .entry))))))
+        × (transferTells (r .reply) ≡ boardChecked board (Call.transfer (now (bytes .entry)) (length (now (reply .entry)))))
         × (transferCount (r .reply)
-        ≡ transferredCount (boardChecked board (Call.transfer (now (bytes .entry)) (length (now (reply .entry)))))
+        ≡ unlessRefused (boardChecked board (Call.transfer (now (bytes .entry)) (length (now (reply .entry)))))
         (length (now (bytes .entry)))) ⌝ }
 {
     let c = board.chip;
@@ -168,8 +168,7 @@ pub fn event(board: Board, event: Event, payload: &[u8], reply: &mut [u8]) -> Bo
     ensures { λ r. ⌜ (r ≡ boardEvent board (Call.event event (now (payload .entry)) (length (now (reply .entry)))))
         × (now (reply .exit)
         ≡ bufferAfter (boardAnswer board (Call.event event (now (payload .entry)) (length (now (reply .entry))))) (now (reply .entry)))
-        × (eventRefusal (r .reply)
-        ≡ checkedNumber (boardChecked board (Call.event event (now (payload .entry)) (length (now (reply .entry))))))
+        × (eventTells (r .reply) ≡ boardChecked board (Call.event event (now (payload .entry)) (length (now (reply .entry)))))
         × (eventPid (r .reply) ≡ answerPid (boardAnswer board (Call.event event (now (payload .entry)) (length (now (reply .entry))))))
         × (eventCount (r .reply)
         ≡ answerCount (boardAnswer board (Call.event event (now (payload .entry)) (length (now (reply .entry)))))) ⌝ }

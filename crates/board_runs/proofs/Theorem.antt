@@ -9,15 +9,16 @@ use lib.Dec.{ltb}
 use lib.ListN.{replicate}
 use Rattle.bits.proofs.Cases.{cond-elim}
 use Rattle.refusal.specs.declared.Refusal.the-variants.{Unsound, ShortBuffer}
+use Rattle.refusal.specs.declared.Checked.{Checked}
+use Rattle.refusal.specs.declared.Checked.the-variants.{Accepted, Refused}
+use Rattle.refusal.specs.Check.{check, checkedNumber}
 use Rattle.chip.specs.declared.Chip.{Chip}
 use Rattle.chip.specs.Record.{powerOnChip}
 use Rattle.chip.specs.Sound.{soundChip}
 use Rattle.request.specs.declared.Firmware.{Firmware}
 use Rattle.request.specs.Record.{soundFirmware}
 use Rattle.firmware.proofs.Laws.{answer-sound}
-use Rattle.model.specs.declared.Checked.{Checked}
-use Rattle.model.specs.declared.Checked.the-variants.{Accepted, Refused}
-use Rattle.model.specs.Call.{Call, transfer, event, Answer, refused, answerOf, runTo, history, check, checkedNumber}
+use Rattle.model.specs.Call.{Call, transfer, event, Answer, refused, answerOf, runTo, history}
 use Rattle.model.specs.Book.{bookOf}
 use Rattle.model.proofs.Runs.{run-append}
 use Rattle.rules.specs.Event.{max3420e}

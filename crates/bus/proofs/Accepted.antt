@@ -1,17 +1,19 @@
 -- What is known of an event that is not refused: none of the grounds applies.
 use mathlib.Core.Path.{_≡_, sym, ap, _∙_}
-use mathlib.Core.Bool.{Bool, true, not, _&&_}
+use mathlib.Core.Bool.{Bool, true}
 use mathlib.Core.List.{[]}
 use Prim.Native.Nat.{ℕ, _≤_}
 use native.Mathlib.Omega.{arith}
 use lib.Dec.{eqb, ltb}
 use borrow.Author.Tests.{eq-eqb, eqb-true, eqb-false, ltb-false, not-false}
 use Rattle.bits.proofs.Cases.{or-false}
+use Rattle.refusal.specs.declared.Checked.{Checked}
+use Rattle.refusal.specs.declared.Checked.the-variants.{Accepted}
+use Rattle.refusal.specs.Check.{check}
+use Rattle.refusal.proofs.Check.{accepted-none}
 use Rattle.model.specs.declared.Event.{Event}
-use Rattle.model.specs.declared.Checked.{Checked}
-use Rattle.model.specs.declared.Checked.the-variants.{Accepted}
-use Rattle.model.specs.Call.{eventGrounds, check, isSetup, isOut}
-use Rattle.model.proofs.Refusals.{accepted-none, short-out}
+use Rattle.model.specs.Call.{eventGrounds}
+use Rattle.model.proofs.Refusals.{short-out}
 
 -- the check goes by what the test of the record answers
 pub check-of : (t sound : Bool) (e : Event) (n room : ℕ) (v w : Checked) → t ≡ sound → v ≡ check (eventGrounds t e n room) → v ≡ w
@@ -38,6 +40,5 @@ module _ (sound : Bool) (e : Event) (n room : ℕ) (accepted : check (eventGroun
 
   pub accepted-setup : e .code ≡ 10 → n ≡ 8
   accepted-setup is =
-      let payload = accepted-none (eventGrounds sound e n room) accepted 3 in
-      let wrong = or-false (isOut e && ltb 64 n) (isSetup e && not (eqb n 8)) payload .1 in
-      eqb-true n 8 (not-false (eqb n 8) (rw (eq-eqb (e .code) 10 is) at wrong))
+      eqb-true n 8
+      (not-false (eqb n 8) (rw (eq-eqb (e .code) 10 is) at (accepted-none (eventGrounds sound e n room) accepted 4)))

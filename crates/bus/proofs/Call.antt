@@ -8,17 +8,17 @@ use lib.ListN.{length}
 use Rattle.refusal.specs.declared.Refusal.{Refusal}
 use Rattle.chip.specs.declared.Chip.{Chip}
 use Rattle.model.specs.declared.Event.{Event}
-use Rattle.model.specs.declared.Checked.{Checked}
-use Rattle.model.specs.declared.Checked.the-variants.{Accepted, Refused}
+use Rattle.refusal.specs.declared.Checked.{Checked}
+use Rattle.refusal.specs.declared.Checked.the-variants.{Accepted, Refused}
 use Rattle.model.specs.Reply.{Reply, transferred, done, silence, ack, nak, stall, sent}
 use Rattle.model.specs.Call.{Call, event, Answer, refused, answered, callTo, answerOf}
-use Rattle.model.specs.Call.{acceptedOutcome, checked, checkedNumber, checkedAnswer}
+use Rattle.model.specs.Call.{acceptedOutcome, checked, checkedAnswer}
 use Rattle.rules.specs.Event.{max3420e}
 use Rattle.event_answer.specs.declared.EventReply.the-variants.{Refused as RefusedReply}
 use Rattle.event_answer.specs.declared.EventAnswer.{EventAnswer}
 use Rattle.event_answer.specs.Answer.{eventReply, eventAnswerWith, outcomeAnswer, outcomeBuffer}
 use Rattle.bus.specs.EventCall.{eventOutcome, eventReplyOf, callAnswer, eventAnswer, eventBuffer}
-use Rattle.bus.specs.EventCall.{eventRefusal, eventPid, eventCount, answerPid, answerCount}
+use Rattle.bus.specs.EventCall.{eventTells, eventPid, eventCount, answerPid, answerCount}
 
 pub event-call : (c : Chip) (e : Event) (vs : List ℕ) (room : ℕ)
     → (eventAnswer c e vs room .chip ≡ callTo max3420e c (event e vs room))
@@ -27,7 +27,7 @@ event-call c e vs room = (refl, refl)
 
 -- ---- numbers
 
-no-refusal : (a : Reply) → eventRefusal (eventReply a) ≡ 0
+no-refusal : (a : Reply) → eventTells (eventReply a) ≡ Accepted
 no-refusal (transferred vs) = refl
 no-refusal done = refl
 no-refusal silence = refl
@@ -37,11 +37,11 @@ no-refusal stall = refl
 no-refusal (sent true vs) = refl
 no-refusal (sent false vs) = refl
 
-checked-refusal : (c : Chip) (k : Call) (v : Checked) → eventRefusal (eventReplyOf (checkedAnswer max3420e c k v)) ≡ checkedNumber v
+checked-refusal : (c : Chip) (k : Call) (v : Checked) → eventTells (eventReplyOf (checkedAnswer max3420e c k v)) ≡ v
 checked-refusal c k Accepted = no-refusal (acceptedOutcome max3420e c k .gives)
 checked-refusal c k (Refused r) = refl
 
-pub refusal-of : (c : Chip) (k : Call) → eventRefusal (eventReplyOf (answerOf max3420e c k)) ≡ checkedNumber (checked max3420e c k)
+pub refusal-of : (c : Chip) (k : Call) → eventTells (eventReplyOf (answerOf max3420e c k)) ≡ checked max3420e c k
 unfolding answerOf
 refusal-of c k = checked-refusal c k (checked max3420e c k)
 
@@ -68,7 +68,7 @@ count-of (answered (sent true vs)) = refl
 count-of (answered (sent false vs)) = refl
 
 pub numbers : (c : Chip) (k : Call) (r : EventAnswer) → r ≡ callAnswer c k
-    → (eventRefusal (r .reply) ≡ checkedNumber (checked max3420e c k))
+    → (eventTells (r .reply) ≡ checked max3420e c k)
     × (eventPid (r .reply) ≡ answerPid (answerOf max3420e c k))
     × (eventCount (r .reply) ≡ answerCount (answerOf max3420e c k))
 numbers c k r e = rw e (refusal-of c k, pid-of (answerOf max3420e c k), count-of (answerOf max3420e c k))

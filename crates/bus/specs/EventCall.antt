@@ -3,7 +3,9 @@ use mathlib.Core.Bool.{cond}
 use mathlib.Core.List.{List}
 use Prim.Native.Nat.{ℕ}
 use lib.ListN.{length, getD}
-use Rattle.refusal.specs.Number.{refusalNumber}
+use Rattle.refusal.specs.declared.Checked.{Checked}
+use Rattle.refusal.specs.declared.Checked.the-variants as checked
+use Rattle.refusal.specs.Check.{checkedNumber, checkedFound}
 use Rattle.chip.specs.declared.Chip.{Chip}
 use Rattle.model.specs.declared.Event.{Event}
 use Rattle.model.specs.Reply.{Outcome, Reply, transferred, done, silence, ack, nak, stall, sent}
@@ -37,16 +39,23 @@ eventBuffer c e vs buffer = bufferAfter (answerOf max3420e c (event e vs (length
 
 -- ---- in numbers
 
--- the number of refusal; 0 is none
+-- what a reply tells of the check
+abbrev pub eventTells : EventReply → Checked
+eventTells (Refused r) = checked.Refused r
+eventTells Done = checked.Accepted
+eventTells Silence = checked.Accepted
+eventTells Ack = checked.Accepted
+eventTells Nak = checked.Accepted
+eventTells Stall = checked.Accepted
+eventTells (Data0 n) = checked.Accepted
+eventTells (Data1 n) = checked.Accepted
+
+-- the number of refusal, and the length that it tells; 0 is none
 abbrev pub eventRefusal : EventReply → ℕ
-eventRefusal (Refused r) = refusalNumber r
-eventRefusal Done = 0
-eventRefusal Silence = 0
-eventRefusal Ack = 0
-eventRefusal Nak = 0
-eventRefusal Stall = 0
-eventRefusal (Data0 n) = 0
-eventRefusal (Data1 n) = 0
+eventRefusal r = checkedNumber (eventTells r)
+
+abbrev pub eventFound : EventReply → ℕ
+eventFound r = checkedFound (eventTells r)
 
 -- the PID byte on the bus (USB 2.0, 8.3.1: four bits, and their complement above); 0 where nothing is sent
 abbrev pub eventPid : EventReply → ℕ

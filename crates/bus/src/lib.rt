@@ -4,8 +4,8 @@ use chip::Chip;
 pub use event_answer::EventAnswer;
 pub use event_answer::EventReply;
 use event_answer::answer_with;
-use model::Checked;
 use model::Event;
+use refusal::Checked;
 use refusal::Refusal;
 use reset::Reset;
 ghost use mathlib.Core.Path.{_≡_};
@@ -13,13 +13,14 @@ ghost use mathlib.Core.Bool.{true};
 ghost use mathlib.Core.List.{List};
 ghost use Prim.Native.Nat.{ℕ, _≤_, _<_};
 ghost use lib.ListN.{length};
-ghost use Rattle.model.specs.declared.Checked.the-variants.{Accepted};
+ghost use Rattle.refusal.specs.declared.Checked.the-variants.{Accepted};
 ghost use Rattle.chip.specs.Sound.{soundChip};
-ghost use Rattle.model.specs.Call.{eventGrounds, check, event as eventCall, checked, checkedNumber, answerOf};
+ghost use Rattle.refusal.specs.Check.{check};
+ghost use Rattle.model.specs.Call.{eventGrounds, event as eventCall, checked, answerOf};
 ghost use Rattle.rules.specs.Event.{raiseUsbirq, stableEvent, vbusOnEvent, vbusOffEvent, pinsEvent};
 ghost use Rattle.rules.specs.Event.{setupEvent, outEvent, inEvent, max3420e};
 ghost use Rattle.event_answer.specs.Answer.{outcomeAnswer, outcomeBuffer};
-ghost use Rattle.bus.specs.EventCall.{eventOutcome, eventAnswer, eventBuffer, eventRefusal, eventPid, eventCount, answerPid};
+ghost use Rattle.bus.specs.EventCall.{eventOutcome, eventAnswer, eventBuffer, eventTells, eventPid, eventCount, answerPid};
 ghost use Rattle.bus.specs.EventCall.{answerCount};
 
 // ---- events 1 to 5: power and pins
@@ -151,7 +152,7 @@ fn take_in(chip: Chip, event: Event, reply: &mut [u8]) -> EventAnswer
 
 // ---- the call
 
-// Refusals 1, 4, 5, 6, 7, in this order.
+// Refusals 1, 4, 5, 6, 8, 7, in this order; 6 and 8 tell the payload's length.
 fn check_event(sound: bool, event: Event, count: usize, room: usize) -> Checked
     ensures { λ r. ⌜ r ≡ check (eventGrounds sound event count room) ⌝ }
 {
@@ -165,8 +166,11 @@ fn check_event(sound: bool, event: Event, count: usize, room: usize) -> Checked
     if (code == 0) | (12 < code) {
         return Checked::Refused(Refusal::UnknownEvent);
     }
-    if ((code == 11) & (64 < count)) | ((code == 10) & (count != 8)) {
-        return Checked::Refused(Refusal::BadPayload);
+    if (code == 11) & (64 < count) {
+        return Checked::Refused(Refusal::OutPayload(count));
+    }
+    if (code == 10) & (count != 8) {
+        return Checked::Refused(Refusal::SetupPayload(count));
     }
     if ((code == 10) | (code == 11) | (code == 12))
         & ((127 < event.address) | (15 < event.endpoint))
@@ -202,8 +206,8 @@ fn accept(chip: Chip, event: Event, payload: &[u8], reply: &mut [u8]) -> EventAn
 pub fn event(chip: Chip, event: Event, payload: &[u8], reply: &mut [u8]) -> EventAnswer
     ensures { λ r. ⌜ (r ≡ eventAnswer chip event (now (payload .entry)) (length (now (reply .entry))))
         × (now (reply .exit) ≡ eventBuffer chip event (now (payload .entry)) (now (reply .entry))) ⌝ }
-    ensures numbers { λ r. ⌜ (eventRefusal (r .reply)
-        ≡ checkedNumber (checked max3420e chip (eventCall event (now (payload .entry)) (length (now (reply .entry))))))
+    ensures numbers { λ r. ⌜ (eventTells (r .reply)
+        ≡ checked max3420e chip (eventCall event (now (payload .entry)) (length (now (reply .entry)))))
         × (eventPid (r .reply)
         ≡ answerPid (answerOf max3420e chip (eventCall event (now (payload .entry)) (length (now (reply .entry))))))
         × (eventCount (r .reply)

@@ -1,21 +1,21 @@
 -- A refused call: the records come back as given, and no lent byte changes.
-use mathlib.Core.Path.{_≡_, refl, sym, _∙_}
+use mathlib.Core.Path.{_≡_, refl, sym, ap, _∙_}
 use mathlib.Core.List.{List}
 use Prim.Native.Nat.{ℕ, suc}
 use native.Mathlib.Omega.{arith}
 use lib.ListN.{length}
+use Rattle.refusal.specs.declared.Checked.{Checked}
+use Rattle.refusal.specs.declared.Checked.the-variants.{Accepted, Refused}
+use Rattle.refusal.specs.Check.{checkedNumber}
 use Rattle.chip.specs.declared.Chip.{Chip}
 use Rattle.request.specs.Request.{requestOf}
 use Rattle.request.specs.declared.Firmware.{Firmware}
 use Rattle.firmware.specs.Answer.{requestRefusal, Handled, servedOf, handled}
 use Rattle.firmware.proofs.Laws.{answer-each, served-each}
 use Rattle.model.specs.declared.Event.{Event}
-use Rattle.model.specs.declared.Checked.{Checked}
-use Rattle.model.specs.declared.Checked.the-variants.{Accepted, Refused}
-use Rattle.model.specs.Call.{Call, transfer, event, checked, checkedNumber}
-use Rattle.model.specs.Call.{checkedTo, checkedAnswer, callTo, answerOf, bufferAfter, runTo}
+use Rattle.model.specs.Call.{Call, transfer, event, checked, checkedTo, checkedAnswer, callTo, answerOf, bufferAfter, runTo}
 use Rattle.rules.specs.Event.{max3420e}
-use Rattle.spi.specs.Transfer.{transferReplyOf, transferRefusal, transferAnswer}
+use Rattle.spi.specs.Transfer.{transferReplyOf, transferTells, transferAnswer}
 use Rattle.bus.specs.EventCall.{eventAnswer, eventBuffer}
 use Rattle.bus.proofs.Call.{refusal-of}
 use Rattle.board_record.specs.declared.Board.{Board}
@@ -35,13 +35,13 @@ call-kept : (c : Chip) (k : Call) (buffer : List ℕ) (n : ℕ) → checkedNumbe
 unfolding callTo answerOf
 call-kept c k buffer n e = checked-kept c k buffer n (checked max3420e c k) e
 
-checked-number : (c : Chip) (k : Call) (v : Checked) → transferRefusal (transferReplyOf (checkedAnswer max3420e c k v)) ≡ checkedNumber v
-checked-number c k Accepted = refl
-checked-number c k (Refused r) = refl
+checked-tells : (c : Chip) (k : Call) (v : Checked) → transferTells (transferReplyOf (checkedAnswer max3420e c k v)) ≡ v
+checked-tells c k Accepted = refl
+checked-tells c k (Refused r) = refl
 
-transfer-number : (c : Chip) (k : Call) → transferRefusal (transferReplyOf (answerOf max3420e c k)) ≡ checkedNumber (checked max3420e c k)
+transfer-tells : (c : Chip) (k : Call) → transferTells (transferReplyOf (answerOf max3420e c k)) ≡ checked max3420e c k
 unfolding answerOf
-transfer-number c k = checked-number c k (checked max3420e c k)
+transfer-tells c k = checked-tells c k (checked max3420e c k)
 
 -- ---- a transfer, an event
 
@@ -51,14 +51,14 @@ pub transfer-given : (c : Chip) (vs buffer : List ℕ) (n : ℕ) → flatTransfe
 unfolding flatTransfer
 transfer-given c vs buffer n h =
     let k = transfer vs (length buffer) in
-    call-kept c k buffer n (sym (transfer-number c k) ∙ h)
+    call-kept c k buffer n (sym (ap checkedNumber (transfer-tells c k)) ∙ h)
 
 pub event-given : (c : Chip) (e : Event) (vs buffer : List ℕ) (n : ℕ) → flatEvent (eventAnswer c e vs (length buffer)) .refusal ≡ suc n
     → (flatEvent (eventAnswer c e vs (length buffer)) .chip ≡ c) × (eventBuffer c e vs buffer ≡ buffer)
 unfolding flatEvent
 event-given c e vs buffer n h =
     let k = event e vs (length buffer) in
-    call-kept c k buffer n (sym (refusal-of c k) ∙ h)
+    call-kept c k buffer n (sym (ap checkedNumber (refusal-of c k)) ∙ h)
 
 -- ---- the board step
 
@@ -73,7 +73,7 @@ pub step-given : (b : Board) (buffer : List ℕ) (n : ℕ) → flatStep (boardSt
     × (stepBuffer b (stepChecked b (length buffer)) buffer ≡ buffer)
 unfolding flatStep boardTo
 step-given b buffer n h =
-    step-kept b buffer n (stepChecked b (length buffer)) (sym (step-refusal b (length buffer)) ∙ h)
+    step-kept b buffer n (stepChecked b (length buffer)) (sym (ap checkedNumber (step-refusal b (length buffer))) ∙ h)
 
 -- ---- the firmware's answer
 

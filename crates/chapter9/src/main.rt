@@ -6,6 +6,7 @@ ghost use Rattle.firmware.specs.Answer.{requestCount};
 use firmware::Endpoints;
 use firmware::Firmware;
 use firmware::RequestReply;
+use refusal::Refusal;
 
 // GET_STATUS of the device, of the interface, and of endpoints 00, 80, 83 and 81, which does not exist.
 const STATUS: [u8; 48] = *b"\x80\x00\x00\x00\x00\x00\x02\x00\
@@ -110,14 +111,24 @@ fn put_endpoints(endpoints: Endpoints) {
     }
 }
 
+// Writes why a call is refused, with the length that a payload's refusal tells.
+fn put_refusal(refusal: Refusal) {
+    let number = refusal.number();
+    put(b": refused");
+    put_byte(number);
+    if (number == 6) | (number == 8) {
+        let mut digits = [0u8; 20];
+        let count = io::decimal(refusal.found() as u64, &mut digits);
+        put(b" found ");
+        put(&digits[..count]);
+    }
+}
+
 fn put_reply(reply: RequestReply, buffer: &[u8])
     requires { ⌜ requestCount reply ≤ length (now buffer) ⌝ }
 {
     match reply {
-        RequestReply::Refused(refusal) => {
-            put(b": refused");
-            put_byte(refusal.number());
-        }
+        RequestReply::Refused(refusal) => put_refusal(refusal),
         RequestReply::Stall => put(b": stall"),
         RequestReply::Ack => put(b": ack"),
         RequestReply::Data(n) => {

@@ -75,9 +75,17 @@ fn put_packet(name: &[u8], buffer: &[u8], count: usize) {
     }
 }
 
+// Writes why a call is refused, with the length that a payload's refusal tells.
 fn put_refusal(refusal: Refusal) {
+    let number = refusal.number();
     put(b": refused");
-    put_byte(refusal.number());
+    put_byte(number);
+    if (number == 6) | (number == 8) {
+        let mut digits = [0u8; 20];
+        let count = io::decimal(refusal.found() as u64, &mut digits);
+        put(b" found ");
+        put(&digits[..count]);
+    }
 }
 
 fn put_reply(reply: EventReply, buffer: &[u8]) {

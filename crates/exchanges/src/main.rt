@@ -4,6 +4,7 @@
 use bus::EventReply;
 use chip::Chip;
 use model::Event;
+use refusal::Refusal;
 
 fn put(text: &[u8]) {
     io::write_all(libc::STDOUT_FILENO, text);
@@ -36,12 +37,22 @@ fn put_packet(pid: &[u8], buffer: &[u8], count: u8) {
     }
 }
 
+// Writes why a call is refused, with the length that a payload's refusal tells.
+fn put_refusal(refusal: Refusal) {
+    let number = refusal.number();
+    put(b": refused");
+    put_byte(number);
+    if (number == 6) | (number == 8) {
+        let mut digits = [0u8; 20];
+        let count = io::decimal(refusal.found() as u64, &mut digits);
+        put(b" found ");
+        put(&digits[..count]);
+    }
+}
+
 fn put_reply(reply: EventReply, buffer: &[u8]) {
     match reply {
-        EventReply::Refused(refusal) => {
-            put(b": refused");
-            put_byte(refusal.number());
-        }
+        EventReply::Refused(refusal) => put_refusal(refusal),
         EventReply::Done => put(b": done"),
         EventReply::Silence => put(b": silence"),
         EventReply::Ack => put(b": ACK"),
@@ -299,7 +310,18 @@ fn refusals(chip: Chip) {
     unsound.registers.epstalls = 0x80;
     signal(unsound, b"  a record that is not sound", 8);
     signal(chip, b"  event 13", 13);
+    put(b"  OUT of 65 bytes");
+    call(
+        chip,
+        Event {
+            code: 11,
+            endpoint: 1,
+            ..QUIET
+        },
+        &[0u8; 65],
+    );
     setup(chip, 0, b"\x80\x06");
+    setup(chip, 128, b"\x80\x06");
     setup(chip, 128, b"\x80\x06\x00\x01\x00\x00\x12\x00");
 }
 

@@ -1,30 +1,33 @@
 -- Laws of the answer: the number of a refusal, that a record which is reached from power-on is sound, and that at most 64
 -- bytes are sent. Each holds of every refusal and of every decision.
 use mathlib.Core.Path.{_≡_, _∙_, refl, sym, ap, subst}
-use mathlib.Core.Bool.{Bool, true, false, not, cond}
+use mathlib.Core.Bool.{true, cond}
 use mathlib.Core.List.{List, [], _∷_}
-use Prim.Native.Nat.{ℕ, _≤_, zero-le}
+use Prim.Native.Nat.{ℕ, _≤_, _<_, zero-le}
 use native.Mathlib.Nat.{le-trans, min-le-right}
 use borrow.Author.Tests.{eqb-true, ltb-false}
-use lib.Dec.{eqb, ltb}
+use lib.Dec.{eqb}
 use lib.ListN.{length}
 use Rattle.descriptor.proofs.Tables.{bytes-fit}
 use Rattle.descriptor.specs.Send.{count}
 use Rattle.descriptor.specs.Table.{dataBytes}
 use Rattle.request.specs.Record.{soundFirmware, powerOnFirmware}
-use Rattle.bits.specs.First.{firstOf}
 use Rattle.request.specs.Request.{requestOf, decisionOf}
 use Rattle.request.specs.declared.Firmware.{Firmware}
 use Rattle.request.specs.declared.Request.{Request}
 use Rattle.request.specs.declared.Decision.{Decision}
 use Rattle.request.specs.declared.Decision.the-variants.{Stall, Send, Accept}
-use Rattle.bits.proofs.First.{none, _⨾_, first-each, first-map}
+use Rattle.bits.proofs.First.{none, _⨾_, first-each, first-map, FirstAt}
 use Rattle.request.proofs.Sound.{nextOf, decision-sound}
-use Rattle.firmware.specs.Answer.{Handled, counted, decisionServed, servedOf, refusedWith, refusals, handled, requestRefusal}
-use Rattle.firmware.specs.Answer.{requestKind, requestCount, numbered, unlessRefused, decisionKind, decisionCount, Numbers}
+use Rattle.firmware.specs.Answer.{Handled, counted, decisionServed, servedOf, refusedWith, requestGrounds, requestChecked}
+use Rattle.firmware.specs.Answer.{checkedHandled, handled, requestTells, requestKind, requestCount, decisionKind, decisionCount}
+use Rattle.firmware.specs.Answer.{Numbers}
 use Rattle.firmware.specs.Run.{Question, recordAfter}
 use Rattle.refusal.specs.declared.Refusal.{Refusal}
-use Rattle.refusal.specs.declared.Refusal.the-variants.{Unsound, ShortBuffer, BadPayload}
+use Rattle.refusal.specs.declared.Checked.{Checked}
+use Rattle.refusal.specs.declared.Checked.the-variants.{Accepted, Refused}
+use Rattle.refusal.specs.Check.{unlessRefused}
+use Rattle.refusal.proofs.Check.{accepted-none, refusalAt, check-exactly}
 use Rattle.firmware.specs.declared.RequestAnswer.{RequestAnswer}
 use Rattle.firmware.specs.declared.RequestReply.{RequestReply}
 use Rattle.firmware.specs.declared.RequestReply.the-variants as RequestReply
@@ -35,9 +38,11 @@ use Rattle.firmware.specs.declared.RequestReply.the-variants as RequestR
 pub answer-each : (P : Handled → Type 0) (setup : List ℕ) (f : Firmware) (reply : List ℕ) → ((r : Refusal) → P (refusedWith r f reply))
     → P (servedOf (requestOf setup) f reply) → P (handled setup f reply)
 unfolding handled
-answer-each P setup f reply refusal served =
-    first-each P (refusals setup f reply) (servedOf (requestOf setup) f reply)
-    ((λ t. refusal Unsound) ⨾ (λ t. refusal ShortBuffer) ⨾ (λ t. refusal BadPayload) ⨾ none) served
+answer-each P setup f reply refusal served = each (requestChecked setup f (length reply))
+  where
+    each : (v : Checked) → P (checkedHandled setup f reply v)
+    each Accepted = served
+    each (Refused r) = refusal r
 
 -- what holds of STALL, of ACK only and of up to 64 bytes holds of the reply to the request
 pub served-each : (P : RequestReply → Type 0) → P RequestReply.Stall → P RequestReply.Ack → ((n : ℕ) → n ≤ 64 → P (RequestReply.Data n))
@@ -77,30 +82,28 @@ decision-count (Send d) w f reply = count-counted (count (dataBytes d) w)
 decision-count (Accept next e) w f reply = refl
 
 module _ (setup : List ℕ) (f : Firmware) (reply : List ℕ) where
-  refusal-number : requestRefusal (handled setup f reply .answer .reply) ≡ numbered setup f reply
-  unfolding handled
-  refusal-number =
-      first-map (λ (o : Handled). requestRefusal (o .answer .reply)) (refusals setup f reply) (servedOf (requestOf setup) f reply)
-      ∙ ap (firstOf ((not (soundFirmware f), 1) ∷ (ltb (length reply) 64, 4) ∷ (not (eqb (length setup) 8), 6) ∷ []))
-      (served-each (λ (r : RequestReply). requestRefusal r ≡ 0) refl refl (λ n h. refl) (requestOf setup) f reply)
-
-  kind-number : requestKind (handled setup f reply .answer .reply)
-      ≡ unlessRefused setup f reply (decisionKind (decisionOf (requestOf setup) f) (requestOf setup .wlength))
-  unfolding handled servedOf
-  kind-number =
-      first-map (λ (o : Handled). requestKind (o .answer .reply)) (refusals setup f reply) (servedOf (requestOf setup) f reply)
-      ∙ ap (unlessRefused setup f reply) (decision-kind (decisionOf (requestOf setup) f) (requestOf setup .wlength) f reply)
-
-  count-number : requestCount (handled setup f reply .answer .reply)
-      ≡ unlessRefused setup f reply (decisionCount (decisionOf (requestOf setup) f) (requestOf setup .wlength))
-  unfolding handled servedOf
-  count-number =
-      first-map (λ (o : Handled). requestCount (o .answer .reply)) (refusals setup f reply) (servedOf (requestOf setup) f reply)
-      ∙ ap (unlessRefused setup f reply) (decision-count (decisionOf (requestOf setup) f) (requestOf setup .wlength) f reply)
+  -- the numbers of a call that was checked so
+  checked-numbers : (v : Checked)
+      → (requestTells (checkedHandled setup f reply v .answer .reply) ≡ v)
+      × (requestKind (checkedHandled setup f reply v .answer .reply)
+      ≡ unlessRefused v (decisionKind (decisionOf (requestOf setup) f) (requestOf setup .wlength)))
+      × (requestCount (checkedHandled setup f reply v .answer .reply)
+      ≡ unlessRefused v (decisionCount (decisionOf (requestOf setup) f) (requestOf setup .wlength)))
+  unfolding servedOf
+  checked-numbers Accepted =
+      let q = requestOf setup in (
+        served-each (λ (r : RequestReply). requestTells r ≡ Accepted) refl refl (λ n h. refl) q f reply,
+        decision-kind (decisionOf q f) (q .wlength) f reply,
+        decision-count (decisionOf q f) (q .wlength) f reply,
+      )
+  checked-numbers (Refused r) = (refl, refl, refl)
 
   -- of every call's reply
   pub handled-numbers : Numbers setup f reply (handled setup f reply .answer .reply)
-  handled-numbers = record { refusal = refusal-number; kind = kind-number; count = count-number }
+  unfolding handled
+  handled-numbers =
+      let n = checked-numbers (requestChecked setup f (length reply)) in
+      record { refusal = n .0; kind = n .1; count = n .2 }
 
 -- an answer that is the definition's has its numbers
 pub handled-told : (setup : List ℕ) (f : Firmware) (reply : List ℕ) {a : RequestAnswer} {exit : List ℕ}
@@ -108,6 +111,13 @@ pub handled-told : (setup : List ℕ) (f : Firmware) (reply : List ℕ) {a : Req
     → (a ≡ handled setup f reply .answer) × (exit ≡ handled setup f reply .buffer) × Numbers setup f reply (a .reply)
 handled-told setup f reply e =
     (e .0, e .1, subst (λ (x : RequestAnswer). Numbers setup f reply (x .reply)) (sym (e .0)) (handled-numbers setup f reply))
+
+-- ---- refusals: each exactly when it applies and none before it does
+
+pub request-exactly : (setup : List ℕ) (f : Firmware) (room i : ℕ) → i < length (requestGrounds setup f room)
+    → (requestChecked setup f room ≡ refusalAt (requestGrounds setup f room) i → FirstAt (requestGrounds setup f room) i)
+    × (FirstAt (requestGrounds setup f room) i → requestChecked setup f room ≡ refusalAt (requestGrounds setup f room) i)
+request-exactly setup f room = check-exactly (requestGrounds setup f room) refl
 
 -- ---- soundness
 
@@ -142,13 +152,12 @@ answer-fits setup f reply =
 
 -- a reply buffer that is shorter is refused, so what is counted lies within it
 pub answer-within : (setup : List ℕ) (f : Firmware) (reply : List ℕ) → requestCount (handled setup f reply .answer .reply) ≤ length reply
-unfolding handled
-answer-within setup f reply = within (ltb (length reply) 64) refl
+answer-within setup f reply = within (requestChecked setup f (length reply)) refl
   where
-    within : (short : Bool) → ltb (length reply) 64 ≡ short → requestCount (handled setup f reply .answer .reply) ≤ length reply
-    within true e =
-        rw e
-        (first-each (λ (o : Handled). requestCount (o .answer .reply) ≤ length reply)
-        ((not (soundFirmware f), refusedWith Unsound f reply) ∷ []) (refusedWith ShortBuffer f reply)
-        ((λ t. zero-le) ⨾ none) zero-le)
-    within false e = le-trans (answer-fits setup f reply) (ltb-false (length reply) 64 e)
+    within : (v : Checked) → requestChecked setup f (length reply) ≡ v → requestCount (handled setup f reply .answer .reply) ≤ length reply
+    within Accepted e =
+        le-trans (answer-fits setup f reply) (ltb-false (length reply) 64 (accepted-none (requestGrounds setup f (length reply)) e 1))
+    within (Refused r) e =
+        let n : ℕ = decisionCount (decisionOf (requestOf setup) f) (requestOf setup .wlength) in
+        let none = handled-numbers setup f reply .count ∙ ap (λ (v : Checked). unlessRefused v n) e in
+        subst (λ (m : ℕ). m ≤ length reply) (sym none) zero-le

@@ -9,10 +9,11 @@ use lib.ListN.{length}
 use Rattle.descriptor.specs.Send.{count, written}
 use Rattle.descriptor.specs.Table.{dataBytes}
 use Rattle.refusal.specs.declared.Refusal.{Refusal}
-use Rattle.refusal.specs.declared.Refusal.the-variants.{Unsound, ShortBuffer, BadPayload}
-use Rattle.refusal.specs.Number.{refusalNumber}
+use Rattle.refusal.specs.declared.Refusal.the-variants.{Unsound, ShortBuffer, SetupPayload}
+use Rattle.refusal.specs.declared.Checked.{Checked}
+use Rattle.refusal.specs.declared.Checked.the-variants as checked
+use Rattle.refusal.specs.Check.{check, checkedNumber, checkedFound, unlessRefused}
 use Rattle.request.specs.Record.{soundFirmware}
-use Rattle.bits.specs.First.{firstOf}
 use Rattle.request.specs.Request.{requestOf, decisionOf}
 use Rattle.request.specs.declared.Firmware.{Firmware}
 use Rattle.request.specs.declared.Request.{Request}
@@ -25,12 +26,19 @@ use Rattle.firmware.specs.declared.RequestAnswer.{RequestAnswer}
 
 -- ---- numbers
 
--- the number of refusal; 0 is none
+-- what a reply tells of the check
+abbrev pub requestTells : RequestReply → Checked
+requestTells (Refused r) = checked.Refused r
+requestTells Stall = checked.Accepted
+requestTells Ack = checked.Accepted
+requestTells (Data n) = checked.Accepted
+
+-- the number of refusal, and the length that it tells; 0 is none
 abbrev pub requestRefusal : RequestReply → ℕ
-requestRefusal (Refused r) = refusalNumber r
-requestRefusal Stall = 0
-requestRefusal Ack = 0
-requestRefusal (Data n) = 0
+requestRefusal r = checkedNumber (requestTells r)
+
+abbrev pub requestFound : RequestReply → ℕ
+requestFound r = checkedFound (requestTells r)
 
 -- 1 STALL, 2 ACK only, 3 data and ACK; 0 is no answer
 abbrev pub requestKind : RequestReply → ℕ
@@ -73,33 +81,29 @@ servedOf q f reply = decisionServed (decisionOf q f) (q .wlength) f reply
 
 -- ---- what a call is answered
 
--- record and reply buffer come back unchanged
+-- 1 the record isn't sound; 4 the reply buffer is under 64 bytes; 8 the setup bytes aren't eight, with the length found (Ask 1)
+abbrev pub requestGrounds : List ℕ → Firmware → ℕ → List (Bool × Refusal)
+requestGrounds setup f room =
+    (not (soundFirmware f), Unsound)
+    ∷ (ltb room 64, ShortBuffer)
+    ∷ (not (eqb (length setup) 8), SetupPayload (length setup))
+    ∷ []
+
+abbrev pub requestChecked : List ℕ → Firmware → ℕ → Checked
+requestChecked setup f room = check (requestGrounds setup f room)
+
+-- refused: record and reply buffer come back unchanged
 abbrev pub refusedWith : Refusal → Firmware → List ℕ → Handled
 refusedWith r f reply = record { answer = unchanged (Refused r) f; buffer = reply }
 
--- the lowest number that applies is given
-abbrev pub refusals : List ℕ → Firmware → List ℕ → List (Bool × Handled)
-refusals setup f reply =
-    -- 1: the record is not sound
-    (not (soundFirmware f), refusedWith Unsound f reply)
-    -- 4: the reply buffer is under 64 bytes
-    ∷ (ltb (length reply) 64, refusedWith ShortBuffer f reply)
-    -- 6: the setup bytes are not eight
-    ∷ (not (eqb (length setup) 8), refusedWith BadPayload f reply)
-    ∷ []
+abbrev pub checkedHandled : List ℕ → Firmware → List ℕ → Checked → Handled
+checkedHandled setup f reply checked.Accepted = servedOf (requestOf setup) f reply
+checkedHandled setup f reply (checked.Refused r) = refusedWith r f reply
 
 unfoldable pub handled : List ℕ → Firmware → List ℕ → Handled
-handled setup f reply = firstOf (refusals setup f reply) (servedOf (requestOf setup) f reply)
+handled setup f reply = checkedHandled setup f reply (requestChecked setup f (length reply))
 
--- ---- the numbers of a call, each with when it is given
-
--- the lowest number of refusal that applies; 0 is none
-abbrev pub numbered : List ℕ → Firmware → List ℕ → ℕ
-numbered setup f reply = firstOf ((not (soundFirmware f), 1) ∷ (ltb (length reply) 64, 4) ∷ (not (eqb (length setup) 8), 6) ∷ []) 0
-
--- n where the call is not refused, else 0
-abbrev pub unlessRefused : List ℕ → Firmware → List ℕ → ℕ → ℕ
-unlessRefused setup f reply n = firstOf ((not (soundFirmware f), 0) ∷ (ltb (length reply) 64, 0) ∷ (not (eqb (length setup) 8), 0) ∷ []) n
+-- ---- the numbers of a call
 
 -- what kind of reply a decision gets, and how many bytes
 abbrev pub decisionKind : Decision → ℕ → ℕ
@@ -112,8 +116,10 @@ decisionCount Decision.Stall wlength = 0
 decisionCount (Decision.Send d) wlength = count (dataBytes d) wlength
 decisionCount (Decision.Accept next e) wlength = 0
 
--- a promise's numbers: refusal, kind and count of the reply
+-- a promise's numbers: refusal with its length, kind and count of the reply
 pub record Numbers (setup : List ℕ) (f : Firmware) (buffer : List ℕ) (r : RequestReply) : Type 0 where
-  pub refusal : requestRefusal r ≡ numbered setup f buffer
-  pub kind : requestKind r ≡ unlessRefused setup f buffer (decisionKind (decisionOf (requestOf setup) f) (requestOf setup .wlength))
-  pub count : requestCount r ≡ unlessRefused setup f buffer (decisionCount (decisionOf (requestOf setup) f) (requestOf setup .wlength))
+  pub refusal : requestTells r ≡ requestChecked setup f (length buffer)
+  pub kind : requestKind r
+      ≡ unlessRefused (requestChecked setup f (length buffer)) (decisionKind (decisionOf (requestOf setup) f) (requestOf setup .wlength))
+  pub count : requestCount r
+      ≡ unlessRefused (requestChecked setup f (length buffer)) (decisionCount (decisionOf (requestOf setup) f) (requestOf setup .wlength))

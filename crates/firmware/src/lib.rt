@@ -125,7 +125,10 @@ pub fn answer(setup: &[u8], firmware: Firmware, reply: &mut [u8]) -> RequestAnsw
         return unchanged(RequestReply::Refused(Refusal::ShortBuffer), firmware);
     }
     if setup.len() != 8 {
-        return unchanged(RequestReply::Refused(Refusal::BadPayload), firmware);
+        return unchanged(
+            RequestReply::Refused(Refusal::SetupPayload(setup.len())),
+            firmware,
+        );
     }
     serve(parse(setup), firmware, reply)
 }

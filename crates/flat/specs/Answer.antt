@@ -5,16 +5,16 @@ use Rattle.request.specs.declared.Endpoints.{Endpoints}
 use Rattle.request.specs.declared.Endpoints.the-variants.{Unchanged, ClearHalt, SetHalt, Configure}
 use Rattle.firmware.specs.declared.RequestReply.{RequestReply}
 use Rattle.firmware.specs.declared.RequestAnswer.{RequestAnswer}
-use Rattle.firmware.specs.Answer.{requestRefusal, requestKind, requestCount}
+use Rattle.firmware.specs.Answer.{requestRefusal, requestFound, requestKind, requestCount}
 use Rattle.spi.specs.declared.TransferReply.{TransferReply}
 use Rattle.spi.specs.declared.TransferAnswer.{TransferAnswer}
-use Rattle.spi.specs.Transfer.{transferRefusal, transferCount}
+use Rattle.spi.specs.Transfer.{transferRefusal, transferFound, transferCount}
 use Rattle.event_answer.specs.declared.EventReply.{EventReply}
 use Rattle.event_answer.specs.declared.EventAnswer.{EventAnswer}
-use Rattle.bus.specs.EventCall.{eventRefusal, eventPid, eventCount}
+use Rattle.bus.specs.EventCall.{eventRefusal, eventFound, eventPid, eventCount}
 use Rattle.board.specs.declared.StepReply.{StepReply}
 use Rattle.board.specs.declared.BoardStep.{BoardStep}
-use Rattle.board.specs.Board.{stepRefusal, stepKind, stepCount}
+use Rattle.board.specs.Board.{stepRefusal, stepFound, stepKind, stepCount}
 use Rattle.flat.specs.declared.Numbers.{Numbers}
 use Rattle.flat.specs.declared.FlatAnswer.{FlatAnswer}
 use Rattle.flat.specs.declared.FlatBoardAnswer.{FlatBoardAnswer}
@@ -24,16 +24,16 @@ use Rattle.flat.specs.declared.FlatRequestAnswer.{FlatRequestAnswer}
 
 -- a transfer is no packet on the bus: no PID
 abbrev pub transferNumbers : TransferReply → Numbers
-transferNumbers r = record { refusal = transferRefusal r; kind = 0; count = transferCount r }
+transferNumbers r = record { refusal = transferRefusal r; found = transferFound r; kind = 0; count = transferCount r }
 
 abbrev pub eventNumbers : EventReply → Numbers
-eventNumbers r = record { refusal = eventRefusal r; kind = eventPid r; count = eventCount r }
+eventNumbers r = record { refusal = eventRefusal r; found = eventFound r; kind = eventPid r; count = eventCount r }
 
 abbrev pub stepNumbers : StepReply → Numbers
-stepNumbers r = record { refusal = stepRefusal r; kind = stepKind r; count = stepCount r }
+stepNumbers r = record { refusal = stepRefusal r; found = stepFound r; kind = stepKind r; count = stepCount r }
 
 abbrev pub requestNumbers : RequestReply → Numbers
-requestNumbers r = record { refusal = requestRefusal r; kind = requestKind r; count = requestCount r }
+requestNumbers r = record { refusal = requestRefusal r; found = requestFound r; kind = requestKind r; count = requestCount r }
 
 -- what is to be written to R9 and R10: nothing, for the end of a halt, for a halt, for a configuration
 abbrev pub endpointsNumber : Endpoints → ℕ
@@ -52,6 +52,7 @@ flatTransfer a =
       pid = 0;
       count = transferCount (a .reply);
       pin = pinNumber (a .pin);
+      found = transferFound (a .reply);
     }
 
 unfoldable pub flatEvent : EventAnswer → FlatAnswer
@@ -62,6 +63,7 @@ flatEvent a =
       pid = eventPid (a .reply);
       count = eventCount (a .reply);
       pin = pinNumber (a .pin);
+      found = eventFound (a .reply);
     }
 
 unfoldable pub flatStep : BoardStep → FlatBoardAnswer
@@ -73,6 +75,7 @@ flatStep a =
       kind = stepKind (a .reply);
       count = stepCount (a .reply);
       pin = pinNumber (a .pin);
+      found = stepFound (a .reply);
     }
 
 unfoldable pub flatRequest : RequestAnswer → FlatRequestAnswer
@@ -83,4 +86,5 @@ flatRequest a =
       kind = requestKind (a .reply);
       endpoints = endpointsNumber (a .endpoints);
       count = requestCount (a .reply);
+      found = requestFound (a .reply);
     }

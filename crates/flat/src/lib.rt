@@ -7,11 +7,13 @@ use chip::Chip;
 use chip::Pin;
 use firmware::RequestAnswer;
 use firmware::RequestReply;
+use refusal::Refusal;
 use request::Endpoints;
 use request::Firmware;
 use spi::TransferAnswer;
 use spi::TransferReply;
 ghost use mathlib.Core.Path.{_≡_};
+ghost use Rattle.refusal.specs.Number.{refusalNumber, refusalFound};
 ghost use Rattle.chip.specs.Pin.{pinNumber};
 ghost use Rattle.flat.specs.Answer.{transferNumbers, eventNumbers, stepNumbers, requestNumbers, endpointsNumber};
 ghost use Rattle.flat.specs.Answer.{flatTransfer, flatEvent, flatStep, flatRequest};
@@ -24,6 +26,7 @@ pub struct FlatAnswer {
     pub pid: u8,
     pub count: u16,
     pub pin: u8,
+    pub found: usize,
 }
 
 // What a board step hands back.
@@ -35,6 +38,7 @@ pub struct FlatBoardAnswer {
     pub kind: u8,
     pub count: u16,
     pub pin: u8,
+    pub found: usize,
 }
 
 // What the firmware's answer to eight setup bytes hands back.
@@ -45,11 +49,13 @@ pub struct FlatRequestAnswer {
     pub kind: u8,
     pub endpoints: u8,
     pub count: u16,
+    pub found: usize,
 }
 
-// A reply: the number of refusal, the PID or the kind, and the bytes written.
+// A reply: the number of refusal and the length that it tells, the PID or the kind, and the bytes written.
 struct Numbers {
     refusal: u8,
+    found: usize,
     kind: u8,
     count: u16,
 }
@@ -64,11 +70,23 @@ fn pin_number(pin: Pin) -> u8
     }
 }
 
-fn in_numbers(refusal: u8, kind: u8, count: u16) -> Numbers
-    ensures { λ r. ⌜ r ≡ record { refusal = refusal; kind = kind; count = count } ⌝ }
+fn refused_numbers(refusal: Refusal) -> Numbers
+    ensures { λ r. ⌜ r ≡ record { refusal = refusalNumber refusal; found = refusalFound refusal; kind = 0; count = 0 } ⌝ }
 {
     Numbers {
-        refusal,
+        refusal: refusal.number(),
+        found: refusal.found(),
+        kind: 0,
+        count: 0,
+    }
+}
+
+fn answered_numbers(kind: u8, count: u16) -> Numbers
+    ensures { λ r. ⌜ r ≡ record { refusal = 0; found = 0; kind = kind; count = count } ⌝ }
+{
+    Numbers {
+        refusal: 0,
+        found: 0,
         kind,
         count,
     }
@@ -78,8 +96,8 @@ fn transfer_numbers(reply: TransferReply) -> Numbers
     ensures { λ r. ⌜ r ≡ transferNumbers reply ⌝ }
 {
     match reply {
-        TransferReply::Refused(refusal) => in_numbers(refusal.number(), 0, 0),
-        TransferReply::Transferred(n) => in_numbers(0, 0, n),
+        TransferReply::Refused(refusal) => refused_numbers(refusal),
+        TransferReply::Transferred(n) => answered_numbers(0, n),
     }
 }
 
@@ -87,14 +105,14 @@ fn event_numbers(reply: EventReply) -> Numbers
     ensures { λ r. ⌜ r ≡ eventNumbers reply ⌝ }
 {
     match reply {
-        EventReply::Refused(refusal) => in_numbers(refusal.number(), 0, 0),
-        EventReply::Done => in_numbers(0, 0, 0),
-        EventReply::Silence => in_numbers(0, 0, 0),
-        EventReply::Ack => in_numbers(0, 0xd2, 0),
-        EventReply::Nak => in_numbers(0, 0x5a, 0),
-        EventReply::Stall => in_numbers(0, 0x1e, 0),
-        EventReply::Data0(n) => in_numbers(0, 0xc3, n as u16),
-        EventReply::Data1(n) => in_numbers(0, 0x4b, n as u16),
+        EventReply::Refused(refusal) => refused_numbers(refusal),
+        EventReply::Done => answered_numbers(0, 0),
+        EventReply::Silence => answered_numbers(0, 0),
+        EventReply::Ack => answered_numbers(0xd2, 0),
+        EventReply::Nak => answered_numbers(0x5a, 0),
+        EventReply::Stall => answered_numbers(0x1e, 0),
+        EventReply::Data0(n) => answered_numbers(0xc3, n as u16),
+        EventReply::Data1(n) => answered_numbers(0x4b, n as u16),
     }
 }
 
@@ -102,11 +120,11 @@ fn step_numbers(reply: StepReply) -> Numbers
     ensures { λ r. ⌜ r ≡ stepNumbers reply ⌝ }
 {
     match reply {
-        StepReply::Refused(refusal) => in_numbers(refusal.number(), 0, 0),
-        StepReply::Idle => in_numbers(0, 0, 0),
-        StepReply::Stall => in_numbers(0, 1, 0),
-        StepReply::Ack => in_numbers(0, 2, 0),
-        StepReply::Data(n) => in_numbers(0, 3, n as u16),
+        StepReply::Refused(refusal) => refused_numbers(refusal),
+        StepReply::Idle => answered_numbers(0, 0),
+        StepReply::Stall => answered_numbers(1, 0),
+        StepReply::Ack => answered_numbers(2, 0),
+        StepReply::Data(n) => answered_numbers(3, n as u16),
     }
 }
 
@@ -114,10 +132,10 @@ fn request_numbers(reply: RequestReply) -> Numbers
     ensures { λ r. ⌜ r ≡ requestNumbers reply ⌝ }
 {
     match reply {
-        RequestReply::Refused(refusal) => in_numbers(refusal.number(), 0, 0),
-        RequestReply::Stall => in_numbers(0, 1, 0),
-        RequestReply::Ack => in_numbers(0, 2, 0),
-        RequestReply::Data(n) => in_numbers(0, 3, n as u16),
+        RequestReply::Refused(refusal) => refused_numbers(refusal),
+        RequestReply::Stall => answered_numbers(1, 0),
+        RequestReply::Ack => answered_numbers(2, 0),
+        RequestReply::Data(n) => answered_numbers(3, n as u16),
     }
 }
 
@@ -146,6 +164,7 @@ pub fn flat_transfer(answer: TransferAnswer) -> FlatAnswer
         pid: n.kind,
         count: n.count,
         pin: pin_number(pin),
+        found: n.found,
     }
 }
 
@@ -162,6 +181,7 @@ pub fn flat_event(answer: EventAnswer) -> FlatAnswer
         pid: n.kind,
         count: n.count,
         pin: pin_number(pin),
+        found: n.found,
     }
 }
 
@@ -181,6 +201,7 @@ pub fn flat_step(answer: BoardStep) -> FlatBoardAnswer
         kind: n.kind,
         count: n.count,
         pin: pin_number(pin),
+        found: n.found,
     }
 }
 
@@ -197,5 +218,6 @@ pub fn flat_request(answer: RequestAnswer) -> FlatRequestAnswer
         kind: n.kind,
         endpoints: endpoints_number(endpoints),
         count: n.count,
+        found: n.found,
     }
 }

@@ -1,61 +1,39 @@
--- The refusal that is given has the lowest number that applies; an accepted call has no ground against it; a sound state is never
--- refusal 1.
-use mathlib.Core.Path.{_≡_, refl, sym, ap, _∙_}
-use mathlib.Core.Bool.{Bool, true, false, not, _&&_}
-use mathlib.Core.List.{List, [], _∷_, _++_, map}
-use Prim.Native.Nat.{ℕ, zero, suc, _≤_}
+-- The grounds against a call stand in the order of the paper, and each is given exactly when it applies and none before it does; a
+-- sound state is never refusal 1.
+use mathlib.Core.Path.{_≡_, refl, sym, ap}
+use mathlib.Core.Bool.{Bool, true}
+use mathlib.Core.List.{List, _++_, map}
+use Prim.Native.Nat.{ℕ, _≤_, _<_}
 use native.Mathlib.Omega.{arith}
-use lib.Dec.{eqb, ltb}
 use lib.ListN.{length}
 use borrow.Author.Tests.{eq-eqb, ltb-false}
-use Rattle.bits.proofs.Cases.{or-false, true-is-false}
-use Rattle.bits.proofs.First.{testAt, first-none, noneGives, ascending, numberAt, first-lowest, first-each, Each, _⨾_}
+use Rattle.bits.proofs.Cases.{true-is-false}
+use Rattle.bits.proofs.First.{FirstAt, first-each, Each, _⨾_}
 use Rattle.refusal.specs.declared.Refusal.{Refusal}
 use Rattle.refusal.specs.declared.Refusal.the-variants.{Unsound}
+use Rattle.refusal.specs.declared.Checked.{Checked}
+use Rattle.refusal.specs.declared.Checked.the-variants.{Accepted, Refused}
+use Rattle.refusal.specs.Check.{ground, check, checkedNumber}
+use Rattle.refusal.proofs.Check.{accepted-none, inOrder, refusalAt, check-exactly}
 use Rattle.model.specs.declared.Event.{Event}
-use Rattle.model.specs.declared.Checked.{Checked}
-use Rattle.model.specs.declared.Checked.the-variants.{Accepted, Refused}
-use Rattle.model.specs.Call.{Call, transfer, event, transferGrounds, eventGrounds, grounds, ground, check, checkedNumber, isOut}
-use Rattle.model.specs.Call.{isSetup}
+use Rattle.model.specs.Call.{Call, transfer, event, transferGrounds, eventGrounds, grounds}
 
-abbrev isAccepted : Checked → Bool
-isAccepted Accepted = true
-isAccepted (Refused r) = false
+-- ---- the grounds of documents 01 and 02
 
--- ---- any list of grounds
+pub grounds-in-order : (sound : Bool) (k : Call) → inOrder (grounds sound k) ≡ true
+grounds-in-order sound (transfer bytes room) = refl
+grounds-in-order sound (event e payload room) = refl
 
--- a ground refuses
-grounds-refuse : (gs : List (Bool × Refusal)) → noneGives isAccepted (map ground gs) ≡ true
-grounds-refuse [] = refl
-grounds-refuse (g ∷ gs) = grounds-refuse gs
-
-ground-test : (gs : List (Bool × Refusal)) (i : ℕ) → testAt (map ground gs) i ≡ testAt gs i
-ground-test [] i = refl
-ground-test (g ∷ gs) zero = refl
-ground-test (g ∷ gs) (suc i) = ground-test gs i
-
--- no ground of an accepted call applies
-pub accepted-none : (gs : List (Bool × Refusal)) → check gs ≡ Accepted → (i : ℕ) → testAt gs i ≡ false
-accepted-none gs e i = sym (ground-test gs i) ∙ first-none isAccepted (map ground gs) Accepted (grounds-refuse gs) (ap isAccepted e) i
-
--- where the numbers go upwards, no ground that applies has a lower number than the refusal that is given
-pub check-lowest : (gs : List (Bool × Refusal)) → ascending checkedNumber 0 (map ground gs) ≡ true → (i : ℕ) → testAt gs i ≡ true
-    → checkedNumber (check gs) ≤ numberAt checkedNumber 0 (map ground gs) i
-check-lowest gs a i t = first-lowest checkedNumber 0 0 (map ground gs) Accepted a i (ground-test gs i ∙ t)
-
--- ---- the grounds of document 01
-
-pub grounds-ascend : (sound : Bool) (k : Call) → ascending checkedNumber 0 (map ground (grounds sound k)) ≡ true
-grounds-ascend sound (transfer bytes room) = refl
-grounds-ascend sound (event e payload room) = refl
+pub refusal-exactly : (sound : Bool) (k : Call) (i : ℕ) → i < length (grounds sound k)
+    → (check (grounds sound k) ≡ refusalAt (grounds sound k) i → FirstAt (grounds sound k) i)
+    × (FirstAt (grounds sound k) i → check (grounds sound k) ≡ refusalAt (grounds sound k) i)
+refusal-exactly sound k = check-exactly (grounds sound k) (grounds-in-order sound k)
 
 -- the payload of an accepted OUT has at most 64 bytes
 pub short-out : (sound : Bool) (e : Event) (n room : ℕ) (gs : List (Bool × Refusal)) → check (eventGrounds sound e n room ++ gs) ≡ Accepted
     → e .code ≡ 11 → n ≤ 64
 short-out sound e n room gs accepted out =
-    let payload = accepted-none (eventGrounds sound e n room ++ gs) accepted 3 in
-    let long = or-false (isOut e && ltb 64 n) (isSetup e && not (eqb n 8)) payload .0 in
-    ltb-false 64 n (rw (eq-eqb (e .code) 11 out) at long)
+    ltb-false 64 n (rw (eq-eqb (e .code) 11 out) at (accepted-none (eventGrounds sound e n room ++ gs) accepted 3))
 
 -- ---- refusal 1
 
@@ -75,6 +53,5 @@ sound-accepted (transfer bytes room) gs others =
 sound-accepted (event v payload room) gs others =
     first-each NotUnsound (map ground (eventGrounds true v (length payload) room ++ gs)) Accepted
     ((λ t. true-is-false (sym t)) ⨾ (λ t. other _ (λ e. omega arith)) ⨾ (λ t. other _ (λ e. omega arith)) ⨾
-    (λ t. other _ (λ e. omega arith))
-    ⨾ (λ t. other _ (λ e. omega arith)) ⨾ others)
+    (λ t. other _ (λ e. omega arith)) ⨾ (λ t. other _ (λ e. omega arith)) ⨾ (λ t. other _ (λ e. omega arith)) ⨾ others)
     (other Accepted (λ e. omega arith))

@@ -4,8 +4,8 @@ use mathlib.Core.List.{List, [], _∷_, _++_}
 use Prim.Native.Nat.{ℕ, suc}
 use native.Mathlib.Omega.{arith}
 use lib.ListN.{length, drop, length-append, length-drop}
-use Rattle.model.specs.declared.Checked.{Checked}
-use Rattle.model.specs.declared.Checked.the-variants.{Accepted, Refused}
+use Rattle.refusal.specs.declared.Checked.{Checked}
+use Rattle.refusal.specs.declared.Checked.the-variants.{Accepted, Refused}
 use Rattle.model.specs.Spi.{Spi, transferOf, commandTo, commandWrites, commandRegister}
 use Rattle.model.specs.Call.{Call, transfer, Model, checkedAnswer, answerOf, bufferAfter, checked, callTo, runTo}
 use Rattle.model.proofs.Loop.{burst-length}

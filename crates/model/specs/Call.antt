@@ -1,17 +1,17 @@
 -- A call to a model over any state: when it is refused, its answer, the state after it, the lent buffer after it; and a list of
 -- calls with its history (document 01, "Numbers of refusal").
 use mathlib.Core.Bool.{Bool, not, _&&_, _||_}
-use mathlib.Core.List.{List, [], _∷_, _++_, map}
+use mathlib.Core.List.{List, [], _∷_, _++_}
 use Prim.Native.Nat.{ℕ}
 use lib.Dec.{eqb, ltb}
 use lib.ListN.{length}
-use Rattle.bits.specs.First.{firstOf}
 use Rattle.refusal.specs.declared.Refusal.{Refusal}
-use Rattle.refusal.specs.declared.Refusal.the-variants.{Unsound, NoCommand, LongTransfer, ShortBuffer, UnknownEvent, BadPayload, BadAddress}
-use Rattle.refusal.specs.Number.{refusalNumber}
+use Rattle.refusal.specs.declared.Refusal.the-variants.{Unsound, NoCommand, LongTransfer, ShortBuffer, UnknownEvent, OutPayload}
+use Rattle.refusal.specs.declared.Refusal.the-variants.{SetupPayload, BadAddress}
+use Rattle.refusal.specs.Check.{check}
 use Rattle.model.specs.declared.Event.{Event}
-use Rattle.model.specs.declared.Checked.{Checked}
-use Rattle.model.specs.declared.Checked.the-variants.{Accepted, Refused}
+use Rattle.refusal.specs.declared.Checked.{Checked}
+use Rattle.refusal.specs.declared.Checked.the-variants.{Accepted, Refused}
 use Rattle.model.specs.Reply.{Outcome, outcome, Reply, transferred, replyBytes, lent}
 use Rattle.model.specs.Spi.{Spi, transferTo, transferOf}
 
@@ -30,8 +30,7 @@ abbrev pub bufferAfter : Answer → List ℕ → List ℕ
 bufferAfter (refused r) buffer = buffer
 bufferAfter (answered a) buffer = lent (replyBytes a) buffer
 
--- ---- refusals: grounds in a row, of which the first that applies is given; their numbers go upwards (`grounds-ascend`), so it is
--- ---- the lowest number that applies
+-- ---- refusals: grounds in the order of the paper (`grounds-in-order`), of which the first that applies is given
 
 -- 1 a record passed in isn't sound; 2 a transfer has no command byte; 3 a transfer has over 4,096 bytes; 4 the reply buffer is
 -- shorter than the transfer
@@ -52,30 +51,21 @@ abbrev pub isTransaction : Event → Bool
 isTransaction e = isSetup e || isOut e || isIn e
 
 -- 1 a record passed in isn't sound; 4 the reply buffer is under 64 bytes, for an IN event; 5 an event code isn't one of ours; 6 an
--- OUT payload is over 64 bytes, or a SETUP payload isn't 8; 7 a transaction's address is over 127 or its endpoint over 15
+-- OUT payload is over 64 bytes; 8 a SETUP payload isn't 8, both with the length found (Ask 1); 7 a transaction's address is over 127
+-- or its endpoint over 15
 abbrev pub eventGrounds : Bool → Event → ℕ → ℕ → List (Bool × Refusal)
 eventGrounds sound e n room =
     (not sound, Unsound)
     ∷ (isIn e && ltb room 64, ShortBuffer)
     ∷ (eqb (e .code) 0 || ltb 12 (e .code), UnknownEvent)
-    ∷ ((isOut e && ltb 64 n) || (isSetup e && not (eqb n 8)), BadPayload)
+    ∷ (isOut e && ltb 64 n, OutPayload n)
+    ∷ (isSetup e && not (eqb n 8), SetupPayload n)
     ∷ (isTransaction e && (ltb 127 (e .address) || ltb 15 (e .endpoint)), BadAddress)
     ∷ []
 
 abbrev pub grounds : Bool → Call → List (Bool × Refusal)
 grounds sound (transfer bytes room) = transferGrounds sound (length bytes) room
 grounds sound (event e payload room) = eventGrounds sound e (length payload) room
-
-abbrev pub ground : Bool × Refusal → Bool × Checked
-ground g = (g .0, Refused (g .1))
-
-abbrev pub check : List (Bool × Refusal) → Checked
-check gs = firstOf (map ground gs) Accepted
-
--- the number of refusal; 0 is none
-abbrev pub checkedNumber : Checked → ℕ
-checkedNumber Accepted = 0
-checkedNumber (Refused r) = refusalNumber r
 
 -- ---- a model: both sides, the state at power-on, when a state is sound, and grounds of its own beyond the common ones
 

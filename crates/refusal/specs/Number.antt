@@ -1,8 +1,11 @@
--- The numbers of refusal (document 01).
-use Prim.Native.Nat.{ℕ}
+-- The numbers of refusal (documents 01 and 02), the length that a payload's refusal tells, and the order in which they are looked at.
+use mathlib.Core.Bool.{cond}
+use mathlib.Core.List.{List, [], _∷_}
+use Prim.Native.Nat.{ℕ, suc}
+use lib.Dec.{eqb}
 use Rattle.refusal.specs.declared.Refusal.{Refusal}
-use Rattle.refusal.specs.declared.Refusal.the-variants.{Unsound, NoCommand, LongTransfer, ShortBuffer, UnknownEvent, BadPayload}
-use Rattle.refusal.specs.declared.Refusal.the-variants.{BadAddress}
+use Rattle.refusal.specs.declared.Refusal.the-variants.{Unsound, NoCommand, LongTransfer, ShortBuffer, UnknownEvent, OutPayload}
+use Rattle.refusal.specs.declared.Refusal.the-variants.{SetupPayload, BadAddress}
 
 abbrev pub refusalNumber : Refusal → ℕ
 refusalNumber Unsound = 1
@@ -10,5 +13,29 @@ refusalNumber NoCommand = 2
 refusalNumber LongTransfer = 3
 refusalNumber ShortBuffer = 4
 refusalNumber UnknownEvent = 5
-refusalNumber BadPayload = 6
+refusalNumber (OutPayload n) = 6
+refusalNumber (SetupPayload n) = 8
 refusalNumber BadAddress = 7
+
+-- Ask 1: 6 and 8 tell the length found; 0 with any other
+abbrev pub refusalFound : Refusal → ℕ
+refusalFound Unsound = 0
+refusalFound NoCommand = 0
+refusalFound LongTransfer = 0
+refusalFound ShortBuffer = 0
+refusalFound UnknownEvent = 0
+refusalFound (OutPayload n) = n
+refusalFound (SetupPayload n) = n
+refusalFound BadAddress = 0
+
+-- Ask 1: 8 is checked where 6 is, before 7
+abbrev pub refusalOrder : List ℕ
+refusalOrder = 1 ∷ 2 ∷ 3 ∷ 4 ∷ 5 ∷ 6 ∷ 8 ∷ 7 ∷ []
+
+-- how many numbers of the list stand before n
+abbrev pub placeIn : List ℕ → ℕ → ℕ
+placeIn [] n = 0
+placeIn (x ∷ xs) n = cond (eqb x n) 0 (suc (placeIn xs n))
+
+abbrev pub refusalPlace : Refusal → ℕ
+refusalPlace r = placeIn refusalOrder (refusalNumber r)

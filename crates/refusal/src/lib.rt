@@ -1,6 +1,6 @@
-// Why a call is refused (document 01, "Numbers of refusal").
+// Why a call is refused (document 01, "Numbers of refusal", and document 02, Ask 1).
 ghost use mathlib.Core.Path.{_≡_};
-ghost use Rattle.refusal.specs.Number.{refusalNumber};
+ghost use Rattle.refusal.specs.Number.{refusalNumber, refusalFound};
 
 pub enum Refusal {
     // A record passed in is not sound.
@@ -13,10 +13,18 @@ pub enum Refusal {
     ShortBuffer,
     // An event code is not one of ours.
     UnknownEvent,
-    // An OUT payload is over 64 bytes, or setup bytes are not eight.
-    BadPayload,
+    // An OUT payload is over 64 bytes: so many were found.
+    OutPayload(usize),
+    // A SETUP payload, or the firmware's input, is not eight bytes: so many were found.
+    SetupPayload(usize),
     // A transaction's address is over 127 or its endpoint over 15.
     BadAddress,
+}
+
+// Whether a call is accepted.
+pub enum Checked {
+    Accepted,
+    Refused(Refusal),
 }
 
 impl Refusal {
@@ -29,8 +37,25 @@ impl Refusal {
             Refusal::LongTransfer => 3,
             Refusal::ShortBuffer => 4,
             Refusal::UnknownEvent => 5,
-            Refusal::BadPayload => 6,
+            Refusal::OutPayload(_n) => 6,
+            Refusal::SetupPayload(_n) => 8,
             Refusal::BadAddress => 7,
+        }
+    }
+
+    // The length that was found; 0 where the refusal is not one of a payload.
+    pub fn found(self) -> usize
+        ensures { λ r. ⌜ r ≡ refusalFound self ⌝ }
+    {
+        match self {
+            Refusal::Unsound => 0,
+            Refusal::NoCommand => 0,
+            Refusal::LongTransfer => 0,
+            Refusal::ShortBuffer => 0,
+            Refusal::UnknownEvent => 0,
+            Refusal::OutPayload(n) => n,
+            Refusal::SetupPayload(n) => n,
+            Refusal::BadAddress => 0,
         }
     }
 }

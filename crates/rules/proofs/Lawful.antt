@@ -17,7 +17,8 @@ use Rattle.chip.specs.Sound.{unusedRegisters}
 use Rattle.chip.proofs.Sound.{clean-set, sound-clauses, clauses-sound}
 use Rattle.reset.proofs.Effects.{power-on-sound}
 use Rattle.model.specs.declared.Event.{Event}
-use Rattle.model.specs.Call.{Call, ground, Model}
+use Rattle.model.specs.Call.{Call, Model}
+use Rattle.refusal.specs.Check.{ground}
 use Rattle.model.specs.Book.{Book}
 use Rattle.model.specs.Condition.{always}
 use Rattle.model.proofs.Refusals.{NotUnsound}

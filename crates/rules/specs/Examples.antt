@@ -5,7 +5,8 @@ use mathlib.Core.List.{List, [], _∷_, _++_, map}
 use Prim.Native.Nat.{ℕ}
 use lib.ListN.{replicate}
 use Rattle.refusal.specs.declared.Refusal.{Refusal}
-use Rattle.refusal.specs.declared.Refusal.the-variants.{NoCommand, LongTransfer, ShortBuffer, UnknownEvent, BadPayload, BadAddress}
+use Rattle.refusal.specs.declared.Refusal.the-variants.{NoCommand, LongTransfer, ShortBuffer, UnknownEvent, OutPayload}
+use Rattle.refusal.specs.declared.Refusal.the-variants.{SetupPayload, BadAddress}
 use Rattle.chip.specs.declared.Pin.the-variants.{Low, High, Open}
 use Rattle.chip.specs.declared.PinReply.the-variants.{Level}
 use Rattle.model.specs.declared.Event.{Event}
@@ -271,9 +272,11 @@ refusals =
     refuses (transfer [] 0) NoCommand ∷ refuses (transfer (replicate 4097 0) 0) LongTransfer ∷ refuses (transfer (0 ∷ 0 ∷ []) 1) ShortBuffer
     ∷ refuses (event (plain 0) [] 0) UnknownEvent ∷ refuses (event (plain 13) [] 0) UnknownEvent ∷ refuses
     (event (transaction 12 128 0) [] 63) ShortBuffer
-    ∷ refuses (event (transaction 11 128 0) (replicate 65 0) 0) BadPayload ∷ refuses
-    (event (transaction 10 0 16) (replicate 7 0) 0) BadPayload
-    ∷ refuses (event (transaction 10 0 0) (replicate 9 0) 0) BadPayload ∷ refuses (event (transaction 12 128 0) [] 64) BadAddress
+    ∷ refuses (event (transaction 11 128 0) (replicate 65 0) 0) (OutPayload 65)
+    ∷ refuses (event (transaction 11 0 1) (replicate 300 0) 2) (OutPayload 300)
+    ∷ refuses (event (transaction 10 0 16) (replicate 7 0) 0) (SetupPayload 7)
+    ∷ refuses (event (transaction 10 0 0) (replicate 9 0) 0) (SetupPayload 9)
+    ∷ refuses (event (transaction 10 0 0) [] 0) (SetupPayload 0) ∷ refuses (event (transaction 12 128 0) [] 64) BadAddress
     ∷ refuses (event (transaction 12 0 16) [] 64) BadAddress ∷ refuses (event (transaction 11 128 0) [] 0) BadAddress
     ∷ refuses (event (transaction 10 128 0) (replicate 8 0) 0) BadAddress
     ∷ called (transfer (0x90 ∷ replicate 4095 0) 4096) (answered (transferred (0 ∷ 0x01 ∷ 0 ∷ replicate 4093 0))) (Level High)

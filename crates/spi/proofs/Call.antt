@@ -11,6 +11,9 @@ use Rattle.bits.specs.Bit.{raised}
 use Rattle.ring.specs.Ring.{oldestCount}
 use Rattle.ring.proofs.Laws.{oldest-small}
 use Rattle.refusal.specs.declared.Refusal.{Refusal}
+use Rattle.refusal.specs.declared.Checked.the-variants.{Accepted, Refused}
+use Rattle.refusal.specs.Check.{check, unlessRefused}
+use Rattle.refusal.proofs.Check.{accepted-none}
 use Rattle.chip.specs.declared.Chip.{Chip}
 use Rattle.chip.specs.declared.Pin.{Pin}
 use Rattle.chip.specs.Mask.{ackstat}
@@ -18,19 +21,16 @@ use Rattle.chip.specs.Set.{setEpstalls}
 use Rattle.chip.specs.Sound.{soundChip}
 use Rattle.chip.specs.Pin.{pinOf}
 use Rattle.chip.proofs.Sound.{sound-clauses}
-use Rattle.model.specs.declared.Checked.the-variants.{Accepted, Refused}
 use Rattle.model.specs.Reply.{lent}
 use Rattle.model.specs.Spi.{Spi, commandRegister, commandWrites, commandAcknowledges, commandTo, burstTo, burstOf, transferTo, transferOf}
-use Rattle.model.specs.Call.{transfer, transferGrounds, check, checked, checkedNumber, callTo}
-use Rattle.model.specs.Call.{answerOf, bufferAfter}
+use Rattle.model.specs.Call.{transfer, transferGrounds, checked, callTo, answerOf, bufferAfter}
 use Rattle.model.proofs.Loop.{burst-length}
-use Rattle.model.proofs.Refusals.{accepted-none}
 use Rattle.rules.specs.Spi.{max3420eSpi}
 use Rattle.rules.specs.Event.{max3420e}
 use Rattle.bits.proofs.Cases.{cond-map}
 use Rattle.spi.specs.declared.TransferReply.the-variants as reply
 use Rattle.spi.specs.declared.TransferAnswer.{TransferAnswer}
-use Rattle.spi.specs.Transfer.{transferAnswer, transferRefusal, transferCount, transferredCount}
+use Rattle.spi.specs.Transfer.{transferAnswer, transferTells, transferCount}
 
 -- ---- an accepted transfer
 
@@ -87,8 +87,8 @@ abbrev pub Promised : Chip → List ℕ → List ℕ → TransferAnswer → List
 Promised c bytes buffer r out =
     (r ≡ transferAnswer c (transfer bytes (length buffer)))
     × (out ≡ bufferAfter (answerOf max3420e c (transfer bytes (length buffer))) buffer)
-    × (transferRefusal (r .reply) ≡ checkedNumber (checked max3420e c (transfer bytes (length buffer))))
-    × (transferCount (r .reply) ≡ transferredCount (checked max3420e c (transfer bytes (length buffer))) (length bytes))
+    × (transferTells (r .reply) ≡ checked max3420e c (transfer bytes (length buffer)))
+    × (transferCount (r .reply) ≡ unlessRefused (checked max3420e c (transfer bytes (length buffer))) (length bytes))
 
 pub refused-call : (c : Chip) (bytes buffer : List ℕ) (t : Refusal) (p : Pin) → checked max3420e c (transfer bytes (length buffer)) ≡
     Refused t

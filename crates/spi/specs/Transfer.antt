@@ -2,11 +2,11 @@
 -- "Numbers of refusal").
 use Prim.Native.Nat.{ℕ}
 use lib.ListN.{length}
-use Rattle.refusal.specs.Number.{refusalNumber}
+use Rattle.refusal.specs.declared.Checked.{Checked}
+use Rattle.refusal.specs.declared.Checked.the-variants.{Accepted, Refused}
+use Rattle.refusal.specs.Check.{checkedNumber, checkedFound}
 use Rattle.chip.specs.declared.Chip.{Chip}
 use Rattle.chip.specs.Pin.{pinOf}
-use Rattle.model.specs.declared.Checked.{Checked}
-use Rattle.model.specs.declared.Checked.the-variants.{Accepted, Refused}
 use Rattle.model.specs.Reply.{replyBytes}
 use Rattle.model.specs.Call.{Call, Answer, refused, answered, callTo, answerOf}
 use Rattle.rules.specs.Event.{max3420e}
@@ -28,17 +28,19 @@ transferAnswer c k = transferAnswerWith (callTo max3420e c k) (answerOf max3420e
 
 -- ---- numbers
 
--- the number of refusal; 0 is none
+-- what a reply tells of the check
+abbrev pub transferTells : TransferReply → Checked
+transferTells (reply.Refused r) = Refused r
+transferTells (reply.Transferred n) = Accepted
+
+-- the number of refusal, and the length that it tells; 0 is none
 abbrev pub transferRefusal : TransferReply → ℕ
-transferRefusal (reply.Refused r) = refusalNumber r
-transferRefusal (reply.Transferred n) = 0
+transferRefusal r = checkedNumber (transferTells r)
+
+abbrev pub transferFound : TransferReply → ℕ
+transferFound r = checkedFound (transferTells r)
 
 -- how many bytes of the lent buffer are the reply
 abbrev pub transferCount : TransferReply → ℕ
 transferCount (reply.Refused r) = 0
 transferCount (reply.Transferred n) = n
-
--- the reply is as long as the transfer
-abbrev pub transferredCount : Checked → ℕ → ℕ
-transferredCount Accepted n = n
-transferredCount (Refused r) n = 0

@@ -2,7 +2,7 @@
 use chip::Chip;
 use chip::Pin;
 use chip::Registers;
-use model::Checked;
+use refusal::Checked;
 use refusal::Refusal;
 ghost use mathlib.Core.Path.{_≡_};
 ghost use mathlib.Core.Bool.{cond};
@@ -10,15 +10,16 @@ ghost use Prim.Native.Nat.{_<_, _≤_};
 ghost use lib.ListN.{length};
 ghost use Rattle.bits.specs.Bit.{raised};
 ghost use Rattle.ring.specs.Ring.{oldestCount};
+ghost use Rattle.refusal.specs.Check.{check, unlessRefused};
 ghost use Rattle.chip.specs.Mask.{ackstat};
 ghost use Rattle.chip.specs.Sound.{soundChip};
 ghost use Rattle.chip.specs.Set.{setRegisters};
 ghost use Rattle.model.specs.Reply.{lent};
 ghost use Rattle.model.specs.Spi.{commandAcknowledges, transferTo, transferOf};
-ghost use Rattle.model.specs.Call.{Call, transferGrounds, check, checked, checkedNumber, answerOf, bufferAfter};
+ghost use Rattle.model.specs.Call.{Call, transferGrounds, checked, answerOf, bufferAfter};
 ghost use Rattle.rules.specs.Spi.{statusByte, max3420eSpi};
 ghost use Rattle.rules.specs.Event.{max3420e};
-ghost use Rattle.spi.specs.Transfer.{transferAnswer, transferRefusal, transferCount, transferredCount};
+ghost use Rattle.spi.specs.Transfer.{transferAnswer, transferTells, transferCount};
 
 // Why a transfer is refused, or how many bytes of the lent buffer are its reply.
 pub enum TransferReply {
@@ -90,10 +91,9 @@ pub fn transfer(chip: Chip, bytes: &[u8], reply: &mut [u8]) -> TransferAnswer
     ensures { λ r. ⌜ (r ≡ transferAnswer chip (Call.transfer (now (bytes .entry)) (length (now (reply .entry)))))
         × (now (reply .exit)
         ≡ bufferAfter (answerOf max3420e chip (Call.transfer (now (bytes .entry)) (length (now (reply .entry))))) (now (reply .entry)))
-        × (transferRefusal (r .reply)
-        ≡ checkedNumber (checked max3420e chip (Call.transfer (now (bytes .entry)) (length (now (reply .entry))))))
+        × (transferTells (r .reply) ≡ checked max3420e chip (Call.transfer (now (bytes .entry)) (length (now (reply .entry)))))
         × (transferCount (r .reply)
-        ≡ transferredCount (checked max3420e chip (Call.transfer (now (bytes .entry)) (length (now (reply .entry)))))
+        ≡ unlessRefused (checked max3420e chip (Call.transfer (now (bytes .entry)) (length (now (reply .entry)))))
         (length (now (bytes .entry)))) ⌝ }
 {
     match check(chip, bytes.len(), reply.len()) {

@@ -11,6 +11,7 @@ use native.Mathlib.Nat.{min-le-right}
 use borrow.Author.Tests.{eq-eqb, le-ltb}
 use Rattle.descriptor.specs.Send.{count}
 use Rattle.descriptor.specs.Table.{dataBytes}
+use Rattle.refusal.specs.declared.Checked.the-variants.{Accepted}
 use Rattle.chip.specs.declared.Chip.{Chip}
 use Rattle.request.specs.declared.Firmware.{Firmware}
 use Rattle.request.specs.declared.Decision.{Decision}
@@ -20,7 +21,7 @@ use Rattle.request.specs.declared.Endpoints.the-variants.{Unchanged}
 use Rattle.request.specs.Record.{soundFirmware}
 use Rattle.request.specs.Request.{requestOf, decisionOf}
 use Rattle.firmware.specs.declared.RequestReply.the-variants.{Ack, Data}
-use Rattle.firmware.specs.Answer.{handled, servedOf, decisionServed, requestRefusal}
+use Rattle.firmware.specs.Answer.{handled, servedOf, decisionServed, requestTells}
 use Rattle.firmware.proofs.Laws.{handled-numbers}
 use Rattle.model.specs.Call.{callTo}
 use Rattle.model.proofs.Runs.{transfer-buffer}
@@ -50,7 +51,7 @@ handled-lent setup f xs ys eight sound hx hy =
     (served-answer (decisionOf (requestOf setup) f) (requestOf setup .wlength) f xs ys)
 
 -- the firmware never refuses a step
-pub firmware-accepts : (c : Chip) (f : Firmware) → soundFirmware f ≡ true → requestRefusal (served c f .answer .reply) ≡ 0
+pub firmware-accepts : (c : Chip) (f : Firmware) → soundFirmware f ≡ true → requestTells (served c f .answer .reply) ≡ Accepted
 firmware-accepts c f sound =
     handled-numbers (setupRead c) f (replicate 64 0) .refusal ∙ rw (sound, eq-eqb (length (setupRead c)) 8 (setup-length c))
 

@@ -27,8 +27,8 @@ pub fn one_refusal(rng: &mut Rng) -> Call {
         2 => short_reply(rng),
         3 => transaction(Event { code: rng.byte(), ..Event::default() }, &[], rng.below(70)),
         4 => Call::Step { room: rng.pick(&[0, 1, 63, 64, 4200]) },
-        5 => wrong_length(rng, OUT_EVENT, &[63, 64, 65, 66, 200]),
-        6 => wrong_length(rng, SETUP_EVENT, &[0, 7, 8, 9, 64, 65]),
+        5 => wrong_length(rng, OUT_EVENT, &[63, 64, 65, 66, 200, 256, 320]),
+        6 => wrong_length(rng, SETUP_EVENT, &[0, 7, 8, 9, 64, 65, 264]),
         7..=9 => far_transaction(rng),
         _ => any_marks(rng),
     }

@@ -6,59 +6,55 @@ use Rattle.flat.proofs.request_numbers.Tie as tie
 enum-known-reply : tie.Need-enum-known-reply
 enum-known-reply c = search needs
 
-number-requires : tie.Need-number-requires
-number-requires c κs = search needs
-
-in-numbers-requires : tie.Need-in-numbers-requires
-in-numbers-requires c κs = search needs
+refused-numbers-requires : tie.Need-refused-numbers-requires
+refused-numbers-requires c κs = search needs
 
 enum-told : tie.Need-enum-told
 enum-told c = search needs
 
-in-numbers-requires-2 : tie.Need-in-numbers-requires-2
-in-numbers-requires-2 c κs = search needs
+answered-numbers-requires : tie.Need-answered-numbers-requires
+answered-numbers-requires c κs = search needs
 
 enum-told-2 : tie.Need-enum-told-2
 enum-told-2 c = search needs
 
-in-numbers-requires-3 : tie.Need-in-numbers-requires-3
-in-numbers-requires-3 c κs = search needs
+answered-numbers-requires-2 : tie.Need-answered-numbers-requires-2
+answered-numbers-requires-2 c κs = search needs
 
 enum-known-reply-2 : tie.Need-enum-known-reply-2
 enum-known-reply-2 c = search needs
 
-cast-in-numbers : tie.Need-cast-in-numbers
-cast-in-numbers c = search needs
+cast-answered-numbers : tie.Need-cast-answered-numbers
+cast-answered-numbers c = search needs
 
-in-numbers-requires-4 : tie.Need-in-numbers-requires-4
-in-numbers-requires-4 c κs = search needs
+answered-numbers-requires-3 : tie.Need-answered-numbers-requires-3
+answered-numbers-requires-3 c κs = search needs
 
 returns : tie.Need-returns
-returns c = rw (c .in-numbers .ensures, c .before .number .ensures, c .before .before .before .reply .given .1)
+returns c = rw (c .refused-numbers .ensures, c .before .before .reply .given .1)
 
 returns-2 : tie.Need-returns-2
-returns-2 c = rw (c .in-numbers2 .ensures, c .before .enum-told .given .1)
+returns-2 c = rw (c .answered-numbers .ensures, c .before .enum-told .given .1)
 
 returns-3 : tie.Need-returns-3
-returns-3 c = rw (c .in-numbers3 .ensures, c .before .enum-told2 .given .1)
+returns-3 c = rw (c .answered-numbers2 .ensures, c .before .enum-told2 .given .1)
 
 returns-4 : tie.Need-returns-4
-returns-4 c = rw (c .in-numbers4 .ensures, c .before .before .reply2 .given .1)
+returns-4 c = rw (c .answered-numbers3 .ensures, c .before .before .reply2 .given .1)
 
 pub request-numbers-spec : {M : Type 1} → statement M
 request-numbers-spec =
     tie.close
     (tie.spec
     enum-known-reply
-    number-requires
-    in-numbers-requires
+    refused-numbers-requires
     enum-told
-    in-numbers-requires-2
+    answered-numbers-requires
     enum-told-2
-    in-numbers-requires-3
+    answered-numbers-requires-2
     enum-known-reply-2
-    cast-in-numbers
-    in-numbers-requires-4
+    cast-answered-numbers
+    answered-numbers-requires-3
     returns
     returns-2
     returns-3
