@@ -1,6 +1,6 @@
 //! The firmware's answer to a chapter 9 request (document 01, "The firmware").
 
-use crate::chip::{BUFFER, SETUP};
+use crate::chip::{found, BUFFER, SETUP};
 use crate::descriptors::{hid, string, Sent, CONFIGURATION, DEVICE, REPORT};
 use crate::flips::{flipped, Flip};
 
