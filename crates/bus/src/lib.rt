@@ -157,6 +157,7 @@ fn check_event(sound: bool, event: Event, count: usize, room: usize) -> Checked
     ensures { λ r. ⌜ r ≡ check (eventGrounds sound event count room) ⌝ }
 {
     let code = event.code;
+    let far = (127 < event.address) | (15 < event.endpoint);
     if !sound {
         return Checked::Refused(Refusal::Unsound);
     }
@@ -172,9 +173,7 @@ fn check_event(sound: bool, event: Event, count: usize, room: usize) -> Checked
     if (code == 10) & (count != 8) {
         return Checked::Refused(Refusal::SetupPayload(count));
     }
-    if ((code == 10) | (code == 11) | (code == 12))
-        & ((127 < event.address) | (15 < event.endpoint))
-    {
+    if ((code == 10) | (code == 11) | (code == 12)) & far {
         return Checked::Refused(Refusal::BadAddress);
     }
     Checked::Accepted

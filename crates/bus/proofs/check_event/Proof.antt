@@ -26,21 +26,19 @@ returns-5 c =
 
 returns-6 : tie.Need-returns-6
 returns-6 c =
-    let first = c .before .before .before .before .before .before .before .if1 in
-    let second = c .before .before .before .before .before .before .if2 in
-    let third = c .before .before .before .before .before .if3 in
-    let fourth = c .before .before .before .before .if4 in
-    let fifth = c .before .before .before .if5 in
-    rw (first .left, second .left, third .left, fourth .left, fifth .left, c .if6 .taken)
+    let first = c .before .before .before .before .before .if1 in
+    let second = c .before .before .before .before .if2 in
+    let third = c .before .before .before .if3 in
+    let fourth = c .before .before .if4 in
+    rw (first .left, second .left, third .left, fourth .left, c .before .if5 .left, c .if6 .taken)
 
 returns-7 : tie.Need-returns-7
 returns-7 c =
-    let first = c .before .before .before .before .before .before .before .if1 in
-    let second = c .before .before .before .before .before .before .if2 in
-    let third = c .before .before .before .before .before .if3 in
-    let fourth = c .before .before .before .before .if4 in
-    let fifth = c .before .before .before .if5 in
-    rw (first .left, second .left, third .left, fourth .left, fifth .left, c .if6 .left)
+    let first = c .before .before .before .before .before .if1 in
+    let second = c .before .before .before .before .if2 in
+    let third = c .before .before .before .if3 in
+    let fourth = c .before .before .if4 in
+    rw (first .left, second .left, third .left, fourth .left, c .before .if5 .left, c .if6 .left)
 
 pub check-event-spec : {M : Type 1} → statement M
 check-event-spec = tie.close (tie.spec returns returns-2 returns-3 returns-4 returns-5 returns-6 returns-7)
