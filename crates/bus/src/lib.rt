@@ -5,7 +5,6 @@ pub use event_answer::EventAnswer;
 pub use event_answer::EventReply;
 use event_answer::answer_with;
 use model::Event;
-use refusal::Checked;
 use refusal::Refusal;
 use reset::Reset;
 ghost use mathlib.Core.Path.{_≡_};
@@ -15,7 +14,7 @@ ghost use Prim.Native.Nat.{ℕ, _≤_, _<_};
 ghost use lib.ListN.{length};
 ghost use Rattle.refusal.specs.declared.Checked.the-variants.{Accepted};
 ghost use Rattle.chip.specs.Sound.{soundChip};
-ghost use Rattle.refusal.specs.Check.{check};
+ghost use Rattle.refusal.specs.Check.{check, checkedNumber};
 ghost use Rattle.model.specs.Call.{eventGrounds, event as eventCall, checked, answerOf};
 ghost use Rattle.rules.specs.Event.{raiseUsbirq, stableEvent, vbusOnEvent, vbusOffEvent, pinsEvent};
 ghost use Rattle.rules.specs.Event.{setupEvent, outEvent, inEvent, max3420e};
@@ -152,31 +151,32 @@ fn take_in(chip: Chip, event: Event, reply: &mut [u8]) -> EventAnswer
 
 // ---- the call
 
-// Refusals 1, 4, 5, 6, 8, 7, in this order; 6 and 8 tell the payload's length.
-fn check_event(sound: bool, event: Event, count: usize, room: usize) -> Checked
-    ensures { λ r. ⌜ r ≡ check (eventGrounds sound event count room) ⌝ }
+// The number of refusal: 1, 4, 5, 6, 8, 7, in this order, or 0. A number, since a refusal with its length would go with the record
+// through every way of an accepted event.
+fn check_event(sound: bool, event: Event, count: usize, room: usize) -> u8
+    ensures { λ r. ⌜ r ≡ checkedNumber (check (eventGrounds sound event count room)) ⌝ }
 {
     let code = event.code;
     let far = (127 < event.address) | (15 < event.endpoint);
     if !sound {
-        return Checked::Refused(Refusal::Unsound);
+        return 1;
     }
     if (code == 12) & (room < 64) {
-        return Checked::Refused(Refusal::ShortBuffer);
+        return 4;
     }
     if (code == 0) | (12 < code) {
-        return Checked::Refused(Refusal::UnknownEvent);
+        return 5;
     }
     if (code == 11) & (64 < count) {
-        return Checked::Refused(Refusal::OutPayload(count));
+        return 6;
     }
     if (code == 10) & (count != 8) {
-        return Checked::Refused(Refusal::SetupPayload(count));
+        return 8;
     }
     if ((code == 10) | (code == 11) | (code == 12)) & far {
-        return Checked::Refused(Refusal::BadAddress);
+        return 7;
     }
-    Checked::Accepted
+    0
 }
 
 // An event that is not refused.
@@ -212,8 +212,10 @@ pub fn event(chip: Chip, event: Event, payload: &[u8], reply: &mut [u8]) -> Even
         × (eventCount (r .reply)
         ≡ answerCount (answerOf max3420e chip (eventCall event (now (payload .entry)) (length (now (reply .entry)))))) ⌝ }
 {
-    match check_event(chip.is_sound(), event, payload.len(), reply.len()) {
-        Checked::Refused(refusal) => answer_with(chip, EventReply::Refused(refusal)),
-        Checked::Accepted => accept(chip, event, payload, reply),
+    let number = check_event(chip.is_sound(), event, payload.len(), reply.len());
+    if number != 0 {
+        let refusal = Refusal::numbered(number, payload.len());
+        return answer_with(chip, EventReply::Refused(refusal));
     }
+    accept(chip, event, payload, reply)
 }

@@ -11,7 +11,7 @@ use Rattle.refusal.specs.declared.Refusal.the-variants.{Unsound, NoComma
 use Rattle.refusal.specs.declared.Refusal.the-variants.{SetupPayload, BadAddress}
 use Rattle.refusal.specs.declared.Checked.{Checked}
 use Rattle.refusal.specs.declared.Checked.the-variants.{Accepted, Refused}
-use Rattle.refusal.specs.Number.{refusalNumber, refusalFound}
+use Rattle.refusal.specs.Number.{refusalNumber, refusalFound, refusalOf}
 use Rattle.refusal.specs.Check.{ground, check, checkedPlace}
 
 ground-test : (gs : List (Bool × Refusal)) (i : ℕ) → testAt (map ground gs) i ≡ testAt gs i
@@ -46,6 +46,19 @@ found-none UnknownEvent six eight = refl
 found-none (OutPayload n) six eight = absurd (six refl)
 found-none (SetupPayload n) six eight = absurd (eight refl)
 found-none BadAddress six eight = refl
+
+-- ---- a refusal by its number
+
+-- number and length tell the refusal
+pub refusal-of-number : (r : Refusal) → refusalOf (refusalNumber r) (refusalFound r) ≡ r
+refusal-of-number Unsound = refl
+refusal-of-number NoCommand = refl
+refusal-of-number LongTransfer = refl
+refusal-of-number ShortBuffer = refl
+refusal-of-number UnknownEvent = refl
+refusal-of-number (OutPayload n) = refl
+refusal-of-number (SetupPayload n) = refl
+refusal-of-number BadAddress = refl
 
 -- ---- a refused call
 

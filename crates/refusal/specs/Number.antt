@@ -3,6 +3,7 @@ use mathlib.Core.Bool.{cond}
 use mathlib.Core.List.{List, [], _∷_}
 use Prim.Native.Nat.{ℕ, suc}
 use lib.Dec.{eqb}
+use Rattle.bits.specs.First.{firstOf}
 use Rattle.refusal.specs.declared.Refusal.{Refusal}
 use Rattle.refusal.specs.declared.Refusal.the-variants.{Unsound, NoCommand, LongTransfer, ShortBuffer, UnknownEvent, OutPayload}
 use Rattle.refusal.specs.declared.Refusal.the-variants.{SetupPayload, BadAddress}
@@ -27,6 +28,14 @@ refusalFound UnknownEvent = 0
 refusalFound (OutPayload n) = n
 refusalFound (SetupPayload n) = n
 refusalFound BadAddress = 0
+
+-- the refusal of a number, with the length where it tells one (`refusal-of-number`)
+abbrev pub refusalOf : ℕ → ℕ → Refusal
+refusalOf k n =
+    firstOf
+    ((eqb k 1, Unsound) ∷ (eqb k 2, NoCommand) ∷ (eqb k 3, LongTransfer) ∷ (eqb k 4, ShortBuffer) ∷ (eqb k 5, UnknownEvent)
+    ∷ (eqb k 6, OutPayload n) ∷ (eqb k 8, SetupPayload n) ∷ [])
+    BadAddress
 
 -- Ask 1: 8 is checked where 6 is, before 7
 abbrev pub refusalOrder : List ℕ

@@ -1,6 +1,6 @@
 // Why a call is refused (document 01, "Numbers of refusal", and document 02, Ask 1).
 ghost use mathlib.Core.Path.{_≡_};
-ghost use Rattle.refusal.specs.Number.{refusalNumber, refusalFound};
+ghost use Rattle.refusal.specs.Number.{refusalNumber, refusalFound, refusalOf};
 
 pub enum Refusal {
     // A record passed in is not sound.
@@ -56,6 +56,22 @@ impl Refusal {
             Refusal::OutPayload(n) => n,
             Refusal::SetupPayload(n) => n,
             Refusal::BadAddress => 0,
+        }
+    }
+
+    // The refusal of this number, with this length where it tells one.
+    pub fn numbered(number: u8, found: usize) -> Self
+        ensures { λ r. ⌜ r ≡ refusalOf number found ⌝ }
+    {
+        match number {
+            1 => Refusal::Unsound,
+            2 => Refusal::NoCommand,
+            3 => Refusal::LongTransfer,
+            4 => Refusal::ShortBuffer,
+            5 => Refusal::UnknownEvent,
+            6 => Refusal::OutPayload(found),
+            8 => Refusal::SetupPayload(found),
+            _ => Refusal::BadAddress,
         }
     }
 }

@@ -1,0 +1,33 @@
+-- `Refusal::numbered` meets its promise: the rows of the definition.
+use borrow.Author.Tests.{ne-eqb}
+use Rattle.refusal.proofs.Refusal.numbered.Statement.{statement}
+use Rattle.refusal.proofs.Refusal.numbered.Tie as tie
+
+returns : tie.Need-returns
+returns c = rw (c .match .keys1)
+
+returns-2 : tie.Need-returns-2
+returns-2 c = rw (c .match .keys2)
+
+returns-3 : tie.Need-returns-3
+returns-3 c = rw (c .match .keys3)
+
+returns-4 : tie.Need-returns-4
+returns-4 c = rw (c .match .keys4)
+
+returns-5 : tie.Need-returns-5
+returns-5 c = rw (c .match .keys5)
+
+returns-6 : tie.Need-returns-6
+returns-6 c = rw (c .match .keys6)
+
+returns-7 : tie.Need-returns-7
+returns-7 c = rw (c .match .keys7)
+
+returns-8 : tie.Need-returns-8
+returns-8 c =
+    let n = c .match .rest in
+    rw (ne-eqb _ 1 (n .0 .0 .0 .0 .0 .0 .1), ne-eqb _ 2 (n .0 .0 .0 .0 .0 .1), ne-eqb _ 3 (n .0 .0 .0 .0 .1), ne-eqb _ 4 (n .0 .0 .0 .1), ne-eqb _ 5 (n .0 .0 .1), ne-eqb _ 6 (n .0 .1), ne-eqb _ 8 (n .1))
+
+pub numbered-spec : {M : Type 1} → statement M
+numbered-spec = tie.close (tie.spec returns returns-2 returns-3 returns-4 returns-5 returns-6 returns-7 returns-8)
