@@ -9,7 +9,7 @@ use Rattle.bits.proofs.Cases.{and-true}
 use Rattle.bits.proofs.First.{first-each, none, _⨾_}
 use Rattle.refusal.specs.declared.Checked.{Checked}
 use Rattle.refusal.specs.declared.Checked.the-variants.{Accepted, Refused}
-use Rattle.refusal.specs.Check.{ground, checkedNumber}
+use Rattle.refusal.specs.Check.{ground, checkedNumber, checkedFound}
 use Rattle.refusal.proofs.Check.{accepted-none}
 use Rattle.chip.specs.declared.Chip.{Chip}
 use Rattle.chip.specs.Pin.{pinOf}
@@ -25,8 +25,8 @@ use Rattle.board.specs.declared.StepReply.{StepReply}
 use Rattle.board.specs.declared.StepReply.the-variants as step
 use Rattle.step_transfers.specs.Step.{sudav, served}
 use Rattle.board_record.specs.Record.{soundBoard}
-use Rattle.board.specs.Board.{stepGrounds, stepChecked, repliedStep, stepReplyOf, stepTells, stepRefusal, stepKind, stepCount}
-use Rattle.board.specs.Board.{steppedWith, steppedKind, steppedCount, boardStep}
+use Rattle.board.specs.Board.{stepGrounds, stepChecked, repliedStep, stepReplyOf, stepTells, stepRefusal, stepFound, stepKind}
+use Rattle.board.specs.Board.{stepCount, steppedWith, steppedKind, steppedCount, boardStep}
 use Rattle.step_transfers.proofs.Setup.{firmware-accepts}
 
 -- what the step's reply tells is what the firmware's does
@@ -93,6 +93,12 @@ module _ (b : Board) where
   step-never-8 room e =
       first-each (λ (v : Checked). checkedNumber v ≡ 8 → ⊥) (map ground (stepGrounds b room)) Accepted
       ((λ t n. omega arith) ⨾ (λ t n. omega arith) ⨾ none) (λ n. omega arith) (sym (ap checkedNumber (step-refusal room)) ∙ e)
+
+  -- and it tells no length
+  pub step-found : (room : ℕ) → stepFound (boardStep b room .reply) ≡ 0
+  step-found room =
+      ap checkedFound (step-refusal room)
+      ∙ first-each (λ (v : Checked). checkedFound v ≡ 0) (map ground (stepGrounds b room)) Accepted ((λ t. refl) ⨾ (λ t. refl) ⨾ none) refl
 
   -- an answer that is the definition's has its numbers
   pub step-told : (room : ℕ) {r : BoardStep} {E : Type 0} → (r ≡ boardStep b room) × E → (r ≡ boardStep b room) × E

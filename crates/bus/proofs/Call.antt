@@ -6,10 +6,10 @@ use mathlib.Core.List.{List}
 use Prim.Native.Nat.{ℕ}
 use lib.ListN.{length}
 use Rattle.refusal.specs.declared.Refusal.{Refusal}
-use Rattle.chip.specs.declared.Chip.{Chip}
-use Rattle.model.specs.declared.Event.{Event}
 use Rattle.refusal.specs.declared.Checked.{Checked}
 use Rattle.refusal.specs.declared.Checked.the-variants.{Accepted, Refused}
+use Rattle.chip.specs.declared.Chip.{Chip}
+use Rattle.model.specs.declared.Event.{Event}
 use Rattle.model.specs.Reply.{Reply, transferred, done, silence, ack, nak, stall, sent}
 use Rattle.model.specs.Call.{Call, event, Answer, refused, answered, callTo, answerOf}
 use Rattle.model.specs.Call.{acceptedOutcome, checked, checkedAnswer}

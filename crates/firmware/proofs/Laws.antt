@@ -8,6 +8,11 @@ use native.Mathlib.Nat.{le-trans, min-le-right}
 use borrow.Author.Tests.{eqb-true, ltb-false}
 use lib.Dec.{eqb}
 use lib.ListN.{length}
+use Rattle.refusal.specs.declared.Refusal.{Refusal}
+use Rattle.refusal.specs.declared.Checked.{Checked}
+use Rattle.refusal.specs.declared.Checked.the-variants.{Accepted, Refused}
+use Rattle.refusal.specs.Check.{unlessRefused}
+use Rattle.refusal.proofs.Check.{accepted-none, refusalAt, check-exactly}
 use Rattle.descriptor.proofs.Tables.{bytes-fit}
 use Rattle.descriptor.specs.Send.{count}
 use Rattle.descriptor.specs.Table.{dataBytes}
@@ -23,11 +28,6 @@ use Rattle.firmware.specs.Answer.{Handled, counted, decisionServed, serv
 use Rattle.firmware.specs.Answer.{checkedHandled, handled, requestTells, requestKind, requestCount, decisionKind, decisionCount}
 use Rattle.firmware.specs.Answer.{Numbers}
 use Rattle.firmware.specs.Run.{Question, recordAfter}
-use Rattle.refusal.specs.declared.Refusal.{Refusal}
-use Rattle.refusal.specs.declared.Checked.{Checked}
-use Rattle.refusal.specs.declared.Checked.the-variants.{Accepted, Refused}
-use Rattle.refusal.specs.Check.{unlessRefused}
-use Rattle.refusal.proofs.Check.{accepted-none, refusalAt, check-exactly}
 use Rattle.firmware.specs.declared.RequestAnswer.{RequestAnswer}
 use Rattle.firmware.specs.declared.RequestReply.{RequestReply}
 use Rattle.firmware.specs.declared.RequestReply.the-variants as RequestReply

@@ -6,13 +6,13 @@ use mathlib.Core.List.{List, [], _∷_}
 use Prim.Native.Nat.{ℕ}
 use lib.Dec.{eqb, ltb}
 use lib.ListN.{length}
-use Rattle.descriptor.specs.Send.{count, written}
-use Rattle.descriptor.specs.Table.{dataBytes}
 use Rattle.refusal.specs.declared.Refusal.{Refusal}
 use Rattle.refusal.specs.declared.Refusal.the-variants.{Unsound, ShortBuffer, SetupPayload}
 use Rattle.refusal.specs.declared.Checked.{Checked}
 use Rattle.refusal.specs.declared.Checked.the-variants as checked
 use Rattle.refusal.specs.Check.{check, checkedNumber, checkedFound, unlessRefused}
+use Rattle.descriptor.specs.Send.{count, written}
+use Rattle.descriptor.specs.Table.{dataBytes}
 use Rattle.request.specs.Record.{soundFirmware}
 use Rattle.request.specs.Request.{requestOf, decisionOf}
 use Rattle.request.specs.declared.Firmware.{Firmware}

@@ -8,9 +8,9 @@ use native.Mathlib.Omega.{arith}
 use lib.ListN.{length}
 use Rattle.bits.proofs.Cases.{cond-elim, or-false}
 use Rattle.refusal.specs.declared.Refusal.{Refusal}
-use Rattle.model.specs.declared.Event.{Event}
 use Rattle.refusal.specs.declared.Checked.{Checked}
 use Rattle.refusal.specs.declared.Checked.the-variants.{Accepted, Refused}
+use Rattle.model.specs.declared.Event.{Event}
 use Rattle.model.specs.Reply.{Outcome, Reply}
 use Rattle.model.specs.Spi.{commandRegister, commandWrites, commandAcknowledges, readTo, burstTo, commandTo, transferTo}
 use Rattle.model.specs.Call.{Call, transfer, event, refused, Model, acceptedOutcome, checked, checkedTo, checkedAnswer}

@@ -9,9 +9,9 @@ use Rattle.refusal.specs.declared.Refusal.{Refusal}
 use Rattle.refusal.specs.declared.Refusal.the-variants.{Unsound, NoCommand, LongTransfer, ShortBuffer, UnknownEvent, OutPayload}
 use Rattle.refusal.specs.declared.Refusal.the-variants.{SetupPayload, BadAddress}
 use Rattle.refusal.specs.Check.{check}
-use Rattle.model.specs.declared.Event.{Event}
 use Rattle.refusal.specs.declared.Checked.{Checked}
 use Rattle.refusal.specs.declared.Checked.the-variants.{Accepted, Refused}
+use Rattle.model.specs.declared.Event.{Event}
 use Rattle.model.specs.Reply.{Outcome, outcome, Reply, transferred, replyBytes, lent}
 use Rattle.model.specs.Spi.{Spi, transferTo, transferOf}
 

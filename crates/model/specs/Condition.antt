@@ -3,9 +3,9 @@
 use mathlib.Core.Bool.{Bool, false, cond, _||_}
 use mathlib.Core.List.{List, [], _∷_}
 use Prim.Native.Nat.{ℕ}
-use Rattle.model.specs.declared.Event.{Event}
 use Rattle.refusal.specs.declared.Checked.{Checked}
 use Rattle.refusal.specs.declared.Checked.the-variants.{Accepted, Refused}
+use Rattle.model.specs.declared.Event.{Event}
 use Rattle.model.specs.Spi.{commandRegister, commandWrites, writeTo, commandTo}
 use Rattle.model.specs.Call.{Call, transfer, event, Model, checked, callTo}
 

@@ -1,5 +1,6 @@
 // What a call to a model is, and what it means to be a model of a chip: definitions and laws over any state, no functions.
 // The type below is the one that the code shares with the definitions.
+
 // An event of the bus side. Fields that an event does not use are ignored.
 pub struct Event {
     // 1 power-on, 2 oscillator stable, 3 VBUS on, 4 VBUS off, 5 input pins, 6 bus reset start, 7 bus reset end,

@@ -21,7 +21,7 @@ pub enum Refusal {
     BadAddress,
 }
 
-// Whether a call is accepted.
+// Whether a call is accepted, or why not.
 pub enum Checked {
     Accepted,
     Refused(Refusal),

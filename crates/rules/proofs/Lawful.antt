@@ -10,6 +10,7 @@ use Rattle.bits.proofs.Mask.{has-or}
 use Rattle.bits.proofs.Rows.{Rows, rows-all, none as end, _⨾_}
 use Rattle.ring.specs.Ring.{emptyRing}
 use Rattle.ring.proofs.Laws.{fits-drained}
+use Rattle.refusal.specs.Check.{ground}
 use Rattle.chip.specs.declared.Chip.{Chip}
 use Rattle.chip.specs.Mask.{ackstat, uresdnirq, suspirq, busactirq, unusedOf}
 use Rattle.chip.specs.Record.{bytesOf, powerOnChip}
@@ -18,7 +19,6 @@ use Rattle.chip.proofs.Sound.{clean-set, sound-clauses, clauses-sound}
 use Rattle.reset.proofs.Effects.{power-on-sound}
 use Rattle.model.specs.declared.Event.{Event}
 use Rattle.model.specs.Call.{Call, Model}
-use Rattle.refusal.specs.Check.{ground}
 use Rattle.model.specs.Book.{Book}
 use Rattle.model.specs.Condition.{always}
 use Rattle.model.proofs.Refusals.{NotUnsound}

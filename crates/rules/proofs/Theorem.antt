@@ -13,11 +13,11 @@ use Rattle.bits.proofs.Mask.{has-bit}
 use Rattle.ring.proofs.Laws.{queue-length, sound-most}
 use Rattle.refusal.specs.declared.Refusal.{Refusal}
 use Rattle.refusal.specs.declared.Refusal.the-variants.{Unsound}
+use Rattle.refusal.specs.Check.{check}
 use Rattle.chip.specs.declared.Chip.{Chip}
 use Rattle.chip.specs.Record.{powerOnChip}
 use Rattle.chip.specs.Sound.{soundChip}
 use Rattle.model.specs.Call.{Call, refused, grounds, Model, callTo, answerOf, runTo, history}
-use Rattle.refusal.specs.Check.{check}
 use Rattle.model.specs.Book.{Book, note, bookOf}
 use Rattle.model.proofs.Refusals.{sound-accepted}
 use Rattle.model.proofs.Keeps.{run-keeps, run-always, refused-keeps}

@@ -6,10 +6,10 @@ use Prim.Native.Nat.{ℕ, _≤_, _<_}
 use native.Mathlib.Omega.{arith}
 use lib.ListN.{length, drop}
 use borrow.Author.Tests.{ne-eqb, le-ltb}
-use Rattle.chip.specs.declared.Chip.{Chip}
-use Rattle.chip.specs.Sound.{soundChip}
 use Rattle.refusal.specs.declared.Checked.{Checked}
 use Rattle.refusal.specs.declared.Checked.the-variants.{Accepted}
+use Rattle.chip.specs.declared.Chip.{Chip}
+use Rattle.chip.specs.Sound.{soundChip}
 use Rattle.model.specs.Spi.{commandRegister, commandWrites, commandTo, writeTo, burstTo, burstOf, transferTo}
 use Rattle.model.specs.Call.{checked, checkedTo, checkedAnswer, callTo, answerOf, bufferAfter}
 use Rattle.model.proofs.Loop.{burst-length}

@@ -9,9 +9,9 @@ use lib.ListN.{length, take, drop, replicate, length-drop}
 use lib.Seq.{take-all, take-at, length-take-le}
 use native.Mathlib.Nat.{min-le-right}
 use borrow.Author.Tests.{eq-eqb, le-ltb}
+use Rattle.refusal.specs.declared.Checked.the-variants.{Accepted}
 use Rattle.descriptor.specs.Send.{count}
 use Rattle.descriptor.specs.Table.{dataBytes}
-use Rattle.refusal.specs.declared.Checked.the-variants.{Accepted}
 use Rattle.chip.specs.declared.Chip.{Chip}
 use Rattle.request.specs.declared.Firmware.{Firmware}
 use Rattle.request.specs.declared.Decision.{Decision}
