@@ -1,6 +1,7 @@
 -- Laws of the answer: the number of a refusal, that a record which is reached from power-on is sound, and that at most 64
 -- bytes are sent. Each holds of every refusal and of every decision.
 use mathlib.Core.Path.{_≡_, _∙_, refl, sym, ap, subst}
+use mathlib.Core.Logic.{_↔_}
 use mathlib.Core.Bool.{true, cond}
 use mathlib.Core.List.{List, [], _∷_}
 use Prim.Native.Nat.{ℕ, _≤_, _<_, zero-le}
@@ -115,8 +116,7 @@ handled-told setup f reply e =
 -- ---- refusals: each exactly when it applies and none before it does
 
 pub request-exactly : (setup : List ℕ) (f : Firmware) (room i : ℕ) → i < length (requestGrounds setup f room)
-    → (requestChecked setup f room ≡ refusalAt (requestGrounds setup f room) i → FirstAt (requestGrounds setup f room) i)
-    × (FirstAt (requestGrounds setup f room) i → requestChecked setup f room ≡ refusalAt (requestGrounds setup f room) i)
+    → (requestChecked setup f room ≡ refusalAt (requestGrounds setup f room) i) ↔ FirstAt (requestGrounds setup f room) i
 request-exactly setup f room = check-exactly (requestGrounds setup f room) refl
 
 -- ---- soundness

@@ -1,6 +1,7 @@
 -- The grounds against a call stand in the order of the paper, and each is given exactly when it applies and none before it does; a
 -- sound state is never refusal 1.
 use mathlib.Core.Path.{_≡_, refl, sym, ap}
+use mathlib.Core.Logic.{_↔_}
 use mathlib.Core.Bool.{Bool, true}
 use mathlib.Core.List.{List, _++_, map}
 use Prim.Native.Nat.{ℕ, _≤_, _<_}
@@ -25,8 +26,7 @@ grounds-in-order sound (transfer bytes room) = refl
 grounds-in-order sound (event e payload room) = refl
 
 pub refusal-exactly : (sound : Bool) (k : Call) (i : ℕ) → i < length (grounds sound k)
-    → (check (grounds sound k) ≡ refusalAt (grounds sound k) i → FirstAt (grounds sound k) i)
-    × (FirstAt (grounds sound k) i → check (grounds sound k) ≡ refusalAt (grounds sound k) i)
+    → (check (grounds sound k) ≡ refusalAt (grounds sound k) i) ↔ FirstAt (grounds sound k) i
 refusal-exactly sound k = check-exactly (grounds sound k) (grounds-in-order sound k)
 
 -- the payload of an accepted OUT has at most 64 bytes

@@ -1,5 +1,6 @@
 -- Which ground of refusal is given: each exactly when it applies and none before it does. An accepted call has no ground against it.
 use mathlib.Core.Path.{_≡_, refl, sym, ap, _∙_}
+use mathlib.Core.Logic.{_↔_}
 use mathlib.Core.Bool.{Bool, true, false}
 use mathlib.Core.List.{List, [], _∷_, map}
 use Prim.Native.Nat.{ℕ, zero, suc, _<_}
@@ -71,8 +72,7 @@ abbrev pub refusalAt : List (Bool × Refusal) → ℕ → Checked
 refusalAt gs i = outcomeAt Accepted (map ground gs) i
 
 -- of grounds in the order of the paper, each is given exactly when it applies and none before it does
-pub check-exactly : (gs : List (Bool × Refusal)) → inOrder gs ≡ true → (i : ℕ) → i < length gs
-    → (check gs ≡ refusalAt gs i → FirstAt gs i) × (FirstAt gs i → check gs ≡ refusalAt gs i)
+pub check-exactly : (gs : List (Bool × Refusal)) → inOrder gs ≡ true → (i : ℕ) → i < length gs → (check gs ≡ refusalAt gs i) ↔ FirstAt gs i
 check-exactly gs a i h = (given, λ f. first-at (map ground gs) Accepted i (there f))
   where
     there : FirstAt gs i → FirstAt (map ground gs) i

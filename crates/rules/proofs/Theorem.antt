@@ -1,25 +1,28 @@
 -- Demand 3, for every list of calls from power-on and with no hypothesis on the list; that every record of a run is sound; that
--- refusal 1 never answers a run; that a refused call changes neither record nor ledger. First over any chip that is lawful, then of
--- the MAX3420E. The theorems assume nothing: no axiom, and no condition on bytes, events or buffers.
+-- refusal 1 never answers a run; that a refused call changes neither record nor ledger; when each refusal is given. First over any chip
+-- that is lawful, then of the MAX3420E. The theorems assume nothing: no axiom, and no condition on bytes, events or buffers.
 use mathlib.Core.Path.{_≡_, sym, ap, _∙_}
 use mathlib.Core.Logic.{_↔_}
 use mathlib.Core.Bool.{Bool, true}
 use mathlib.Core.List.{List, _++_}
 use Prim.Native.Nat.{ℕ, _^_, _<_}
 use lib.Dec.{ltb}
+use lib.ListN.{length}
 use borrow.Author.Tests.{eqb-true, ltb-true, lt-ltb, eq-eqb}
 use Rattle.bits.specs.Bit.{bit, has}
+use Rattle.bits.proofs.First.{FirstAt}
 use Rattle.bits.proofs.Mask.{has-bit}
 use Rattle.ring.proofs.Laws.{queue-length, sound-most}
 use Rattle.refusal.specs.declared.Refusal.{Refusal}
 use Rattle.refusal.specs.declared.Refusal.the-variants.{Unsound}
 use Rattle.refusal.specs.Check.{check}
+use Rattle.refusal.proofs.Check.{refusalAt}
 use Rattle.chip.specs.declared.Chip.{Chip}
 use Rattle.chip.specs.Record.{powerOnChip}
 use Rattle.chip.specs.Sound.{soundChip}
-use Rattle.model.specs.Call.{Call, refused, grounds, Model, callTo, answerOf, runTo, history}
+use Rattle.model.specs.Call.{Call, transfer, event, refused, grounds, Model, checked, callTo, answerOf, runTo, history}
 use Rattle.model.specs.Book.{Book, note, bookOf}
-use Rattle.model.proofs.Refusals.{sound-accepted}
+use Rattle.model.proofs.Refusals.{sound-accepted, refusal-exactly}
 use Rattle.model.proofs.Keeps.{run-keeps, run-always, refused-keeps}
 use Rattle.rules.specs.Event.{max3420e}
 use Rattle.rules.specs.Ledger.{Ledger, blank, max3420eLedger}
@@ -84,3 +87,9 @@ reached-accepted = run-accepted (λ c. c) Agree max3420e max3420eLedger max3420e
 pub refused-changes-nothing : (l : Ledger) (c : Chip) (k : Call) (r : Refusal) → answerOf max3420e c k ≡ refused r
     → (callTo max3420e c k ≡ c) × (note max3420eLedger l k (answerOf max3420e c k) ≡ l)
 refused-changes-nothing l c k r e = let kept = refused-keeps max3420e max3420eLedger l c k r e in (kept .0, kept .1)
+
+-- each ground of refusal is given exactly when it applies and none before it does
+pub refused-exactly : (c : Chip) (k : Call) (i : ℕ) → i < length (grounds (soundChip c) k)
+    → (checked max3420e c k ≡ refusalAt (grounds (soundChip c) k) i) ↔ FirstAt (grounds (soundChip c) k) i
+refused-exactly c (transfer bytes room) i = refusal-exactly (soundChip c) (transfer bytes room) i
+refused-exactly c (event e payload room) i = refusal-exactly (soundChip c) (event e payload room) i
