@@ -321,6 +321,7 @@ fn refusals(chip: Chip) {
         &[0u8; 65],
     );
     setup(chip, 0, b"\x80\x06");
+    put(b"  -- at address 128\n");
     setup(chip, 128, b"\x80\x06");
     setup(chip, 128, b"\x80\x06\x00\x01\x00\x00\x12\x00");
 }
