@@ -1,11 +1,11 @@
 -- The answer of a step, part by part; its numbers are those of the refusal, or of the firmware's reply, which never refuses a step.
-use mathlib.Core.Path.{_≡_, refl, sym, ap, _∙_}
+use mathlib.Core.Path.{_≡_, refl, sym, ap, _∙_, subst}
 use mathlib.Core.Bool.{Bool, true, false, cond}
 use mathlib.Core.List.{map}
 use Prim.Native.Nat.{ℕ}
 use native.Mathlib.Omega.{arith}
 use borrow.Author.Tests.{not-false}
-use Rattle.bits.proofs.Cases.{and-true}
+use Rattle.bits.proofs.Cases.{and-true, cond-same}
 use Rattle.bits.proofs.First.{first-each, none, _⨾_}
 use Rattle.refusal.specs.declared.Checked.{Checked}
 use Rattle.refusal.specs.declared.Checked.the-variants.{Accepted, Refused}
@@ -53,10 +53,6 @@ count-is request.Stall = refl
 count-is request.Ack = refl
 count-is (request.Data n) = refl
 
-either : {A : Type 0} (t : Bool) (x z : A) → x ≡ z → cond t x z ≡ z
-either true x z e = e
-either false x z e = refl
-
 module _ (b : Board) where
   abbrev reply : RequestReply
   reply = served (b .chip) (b .firmware) .answer .reply
@@ -67,7 +63,8 @@ module _ (b : Board) where
       × (stepCount (stepReplyOf b v) ≡ steppedCount b v)
   checked-numbers Accepted sound = (
     replied stepTells requestTells (sudav (b .chip)) reply (refusal-is reply)
-        ∙ either (sudav (b .chip)) (requestTells reply) Accepted (firmware-accepts (b .chip) (b .firmware) (sound refl)),
+        ∙ ap (λ (v : Checked). cond (sudav (b .chip)) v Accepted) (firmware-accepts (b .chip) (b .firmware) (sound refl))
+        ∙ cond-same (sudav (b .chip)) Accepted,
     replied stepKind requestKind (sudav (b .chip)) reply (kind-is reply),
     replied stepCount requestCount (sudav (b .chip)) reply (count-is reply),
   )
@@ -88,17 +85,12 @@ module _ (b : Board) where
   pub step-refusal : (room : ℕ) → stepTells (boardStep b room .reply) ≡ stepChecked b room
   step-refusal room = step-numbers room .0
 
-  -- so never with 8: the firmware's eight bytes come from R4 (`setup-length`)
-  pub step-never-8 : (room : ℕ) → stepRefusal (boardStep b room .reply) ≡ 8 → ⊥
-  step-never-8 room e =
-      first-each (λ (v : Checked). checkedNumber v ≡ 8 → ⊥) (map ground (stepGrounds b room)) Accepted
-      ((λ t n. omega arith) ⨾ (λ t n. omega arith) ⨾ none) (λ n. omega arith) (sym (ap checkedNumber (step-refusal room)) ∙ e)
-
-  -- and it tells no length
-  pub step-found : (room : ℕ) → stepFound (boardStep b room .reply) ≡ 0
-  step-found room =
-      ap checkedFound (step-refusal room)
-      ∙ first-each (λ (v : Checked). checkedFound v ≡ 0) (map ground (stepGrounds b room)) Accepted ((λ t. refl) ⨾ (λ t. refl) ⨾ none) refl
+  -- so never with 8, and it tells no length: the firmware's eight bytes come from R4 (`setup-length`)
+  pub step-never-8 : (room : ℕ) → (stepRefusal (boardStep b room .reply) ≡ 8 → ⊥) × (stepFound (boardStep b room .reply) ≡ 0)
+  step-never-8 room =
+      subst (λ (v : Checked). (checkedNumber v ≡ 8 → ⊥) × (checkedFound v ≡ 0)) (sym (step-refusal room))
+      (first-each (λ (v : Checked). (checkedNumber v ≡ 8 → ⊥) × (checkedFound v ≡ 0)) (map ground (stepGrounds b room)) Accepted
+      ((λ t. ((λ n. omega arith), refl)) ⨾ (λ t. ((λ n. omega arith), refl)) ⨾ none) ((λ n. omega arith), refl))
 
   -- an answer that is the definition's has its numbers
   pub step-told : (room : ℕ) {r : BoardStep} {E : Type 0} → (r ≡ boardStep b room) × E → (r ≡ boardStep b room) × E

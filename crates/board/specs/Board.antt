@@ -98,7 +98,7 @@ stepTells step.Stall = Accepted
 stepTells step.Ack = Accepted
 stepTells (step.Data n) = Accepted
 
--- the number of refusal, and the length that it tells, which is none (`step-never-8`, `step-found`); 0 is none
+-- the number of refusal, and the length that it tells, which is none (`step-never-8`); 0 is none
 abbrev pub stepRefusal : StepReply → ℕ
 stepRefusal r = checkedNumber (stepTells r)
 

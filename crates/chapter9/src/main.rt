@@ -6,7 +6,9 @@ ghost use Rattle.firmware.specs.Answer.{requestCount};
 use firmware::Endpoints;
 use firmware::Firmware;
 use firmware::RequestReply;
-use refusal::Refusal;
+use print::put;
+use print::put_bytes;
+use print::put_refusal;
 
 // GET_STATUS of the device, of the interface, and of endpoints 00, 80, 83 and 81, which does not exist.
 const STATUS: [u8; 48] = *b"\x80\x00\x00\x00\x00\x00\x02\x00\
@@ -80,47 +82,12 @@ const CONFIGURATION: [u8; 40] = *b"\x00\x09\x02\x00\x00\x00\x00\x00\
     \x00\x09\x01\x00\x00\x00\x00\x00\
     \x82\x00\x00\x00\x83\x00\x02\x00";
 
-fn put(text: &[u8]) {
-    io::write_all(libc::STDOUT_FILENO, text);
-}
-
-// Writes a byte as two digits, after a space.
-fn put_byte(byte: u8) {
-    let digits = b"0123456789ABCDEF";
-    put(
-        &[
-            b' ',
-            digits[(byte / 16) as usize],
-            digits[(byte % 16) as usize],
-        ],
-    );
-}
-
-fn put_bytes(bytes: &[u8]) {
-    for i in 0..bytes.len() {
-        put_byte(bytes[i]);
-    }
-}
-
 fn put_endpoints(endpoints: Endpoints) {
     match endpoints {
         Endpoints::Unchanged => put(b"\n"),
         Endpoints::ClearHalt => put(b", clear halt\n"),
         Endpoints::SetHalt => put(b", set halt\n"),
         Endpoints::Configure => put(b", configure\n"),
-    }
-}
-
-// Writes why a call is refused, with the length that a payload's refusal tells.
-fn put_refusal(refusal: Refusal) {
-    let number = refusal.number();
-    put(b": refused");
-    put_byte(number);
-    if (number == 6) | (number == 8) {
-        let mut digits = [0u8; 20];
-        let count = io::decimal(refusal.found() as u64, &mut digits);
-        put(b" found ");
-        put(&digits[..count]);
     }
 }
 

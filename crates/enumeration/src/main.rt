@@ -6,7 +6,10 @@ use board::Board;
 use board::StepReply;
 use event_answer::EventReply;
 use model::Event;
-use refusal::Refusal;
+use print::put;
+use print::put_byte;
+use print::put_bytes;
+use print::put_refusal;
 use spi::TransferReply;
 
 // ---- the requests
@@ -45,46 +48,11 @@ const VENDOR: [u8; 8] = *b"\xC0\x00\x00\x00\x00\x00\x02\x00";
 
 // ---- writing
 
-fn put(text: &[u8]) {
-    io::write_all(libc::STDOUT_FILENO, text);
-}
-
-// Writes a byte as two digits, after a space.
-fn put_byte(byte: u8) {
-    let digits = b"0123456789ABCDEF";
-    put(
-        &[
-            b' ',
-            digits[(byte / 16) as usize],
-            digits[(byte % 16) as usize],
-        ],
-    );
-}
-
-fn put_bytes(bytes: &[u8]) {
-    for i in 0..bytes.len() {
-        put_byte(bytes[i]);
-    }
-}
-
 // Writes a name, and so many bytes at the front of a lent buffer.
 fn put_packet(name: &[u8], buffer: &[u8], count: usize) {
     put(name);
     if count <= buffer.len() {
         put_bytes(&buffer[..count]);
-    }
-}
-
-// Writes why a call is refused, with the length that a payload's refusal tells.
-fn put_refusal(refusal: Refusal) {
-    let number = refusal.number();
-    put(b": refused");
-    put_byte(number);
-    if (number == 6) | (number == 8) {
-        let mut digits = [0u8; 20];
-        let count = io::decimal(refusal.found() as u64, &mut digits);
-        put(b" found ");
-        put(&digits[..count]);
     }
 }
 

@@ -4,29 +4,10 @@
 use bus::EventReply;
 use chip::Chip;
 use model::Event;
-use refusal::Refusal;
-
-fn put(text: &[u8]) {
-    io::write_all(libc::STDOUT_FILENO, text);
-}
-
-// Writes a byte as two digits, after a space.
-fn put_byte(byte: u8) {
-    let digits = b"0123456789ABCDEF";
-    put(
-        &[
-            b' ',
-            digits[(byte / 16) as usize],
-            digits[(byte % 16) as usize],
-        ],
-    );
-}
-
-fn put_bytes(bytes: &[u8]) {
-    for i in 0..bytes.len() {
-        put_byte(bytes[i]);
-    }
-}
+use print::put;
+use print::put_byte;
+use print::put_bytes;
+use print::put_refusal;
 
 // Writes a packet at the front of a buffer.
 fn put_packet(pid: &[u8], buffer: &[u8], count: u8) {
@@ -34,19 +15,6 @@ fn put_packet(pid: &[u8], buffer: &[u8], count: u8) {
     let end = count as usize;
     if end <= buffer.len() {
         put_bytes(&buffer[..end]);
-    }
-}
-
-// Writes why a call is refused, with the length that a payload's refusal tells.
-fn put_refusal(refusal: Refusal) {
-    let number = refusal.number();
-    put(b": refused");
-    put_byte(number);
-    if (number == 6) | (number == 8) {
-        let mut digits = [0u8; 20];
-        let count = io::decimal(refusal.found() as u64, &mut digits);
-        put(b" found ");
-        put(&digits[..count]);
     }
 }
 

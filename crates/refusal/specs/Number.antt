@@ -45,6 +45,3 @@ refusalOrder = 1 ∷ 2 ∷ 3 ∷ 4 ∷ 5 ∷ 6 ∷ 8 ∷ 7 ∷ []
 abbrev pub placeIn : List ℕ → ℕ → ℕ
 placeIn [] n = 0
 placeIn (x ∷ xs) n = cond (eqb x n) 0 (suc (placeIn xs n))
-
-abbrev pub refusalPlace : Refusal → ℕ
-refusalPlace r = placeIn refusalOrder (refusalNumber r)

@@ -2,26 +2,13 @@
 // each transfer with its answer: the lent buffer is shown whole, so that bytes past the reply can be seen to stay EE.
 use chip::Chip;
 use chip::Pin;
+use print::put;
+use print::put_byte;
+use print::put_refusal;
 use spi::TransferReply;
 
-fn put(text: &[u8]) {
-    io::write_all(libc::STDOUT_FILENO, text);
-}
-
-// Writes a byte as two digits, after a space.
-fn put_byte(byte: u8) {
-    let digits = b"0123456789ABCDEF";
-    put(
-        &[
-            b' ',
-            digits[(byte / 16) as usize],
-            digits[(byte % 16) as usize],
-        ],
-    );
-}
-
 // The first bytes of a slice, eight at most.
-fn put_bytes(bytes: &[u8]) {
+fn put_front(bytes: &[u8]) {
     for i in 0..bytes.len() {
         if i < 8 {
             put_byte(bytes[i]);
@@ -39,10 +26,7 @@ fn put_pin(pin: Pin) {
 
 fn put_reply(reply: TransferReply) {
     match reply {
-        TransferReply::Refused(refusal) => {
-            put(b": refused");
-            put_byte(refusal.number());
-        }
+        TransferReply::Refused(refusal) => put_refusal(refusal),
         TransferReply::Transferred(n) => {
             put(b": count");
             put_byte((n / 256) as u8);
@@ -58,9 +42,9 @@ fn call(chip: Chip, bytes: &[u8], buffer: &mut [u8]) -> Chip {
     let reply = answer.reply;
     let pin = answer.pin;
     put(b"transfer");
-    put_bytes(bytes);
+    put_front(bytes);
     put_reply(reply);
-    put_bytes(buffer);
+    put_front(buffer);
     put_pin(pin);
     answer.chip
 }

@@ -1,10 +1,10 @@
--- `put_bytes` is safe. The index stays below the length.
+-- `transfers::put_front` is safe and ends: the index stays below the length.
 use mathlib.Core.Path.{_≡_}
 use Prim.Native.Nat.{_≤_, _-_}
-use lib.ListN.{length}
 use borrow.Author.Needs.{needs}
-use Rattle.enumeration.proofs.put_bytes.Statement.{statement}
-use Rattle.enumeration.proofs.put_bytes.Tie as tie
+use lib.ListN.{length}
+use Rattle.transfers.proofs.put_front.Statement.{statement}
+use Rattle.transfers.proofs.put_front.Tie as tie
 
 abbrev Inv-loop : tie.InvT-loop
 Inv-loop bytes i₀ i-end i = (i ≤ i-end) × (i-end ≡ length bytes)
@@ -12,8 +12,8 @@ Inv-loop bytes i₀ i-end i = (i ≤ i-end) × (i-end ≡ length bytes)
 abbrev μ-loop : tie.MeasureT-loop
 μ-loop bytes i₀ i-end i = i-end - i
 
-pub put-bytes-spec : {M : Type 1} → statement M
-put-bytes-spec =
+pub put-front-spec : {M : Type 1} → statement M
+put-front-spec =
     tie.close
     (tie.spec
     Inv-loop

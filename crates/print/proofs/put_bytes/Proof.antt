@@ -1,10 +1,10 @@
--- `transfers::put_bytes` is safe and ends: the index stays below the length.
+-- `put_bytes` is safe. The index stays below the length.
 use mathlib.Core.Path.{_≡_}
 use Prim.Native.Nat.{_≤_, _-_}
-use borrow.Author.Needs.{needs}
 use lib.ListN.{length}
-use Rattle.transfers.proofs.put_bytes.Statement.{statement}
-use Rattle.transfers.proofs.put_bytes.Tie as tie
+use borrow.Author.Needs.{needs}
+use Rattle.print.proofs.put_bytes.Statement.{statement}
+use Rattle.print.proofs.put_bytes.Tie as tie
 
 abbrev Inv-loop : tie.InvT-loop
 Inv-loop bytes i₀ i-end i = (i ≤ i-end) × (i-end ≡ length bytes)
