@@ -93,7 +93,7 @@ static void check_gaps(void)
     expect(end == sizeof(max3420e_chip), "sizeof(max3420e_chip)");
 }
 
-/* Sets the bits of R11 that tell whether packets wait. */
+/* Sets the bits of R11 that tell whether packets wait, as they are where no BAV bit was cleared by hand. */
 static void tie_irqs(max3420e_chip *chip)
 {
     unsigned bits = (chip->ep3.armed == 0) << 4 | (chip->ep2.ring.waiting < 2) << 3 | (chip->ep1.ring.waiting > 0) << 2;
@@ -148,6 +148,22 @@ static void check_limits(const field *f)
         }
 }
 
+/* A BAV bit may be 1 only where there is room, OUT1DAVIRQ is 1 exactly if packets wait: all values of the three bits and counts. */
+static void check_irqs(void)
+{
+    for (unsigned bits = 0; bits < 8; bits++)
+        for (unsigned counts = 0; counts < 3 * 3 * 2; counts++) {
+            unsigned in3 = bits >> 2 & 1, in2 = bits >> 1 & 1, out1 = bits & 1;
+            max3420e_chip chip = distinct();
+            chip.ep1.ring.waiting = (uint8_t)(counts % 3), chip.ep2.ring.waiting = (uint8_t)(counts / 3 % 3);
+            chip.ep3.armed = (uint8_t)(counts / 9);
+            chip.registers.epirq = (uint8_t)((chip.registers.epirq & 0xE3) | bits << 2);
+            int sound = !(in3 && chip.ep3.armed) && !(in2 && chip.ep2.ring.waiting == 2) && out1 == (chip.ep1.ring.waiting > 0);
+            max3420e_answer answer = max3420e_transfer(chip, reply, 0, reply, 0);
+            expect(answer.refusal == (sound ? MAX3420E_NO_COMMAND : MAX3420E_UNSOUND), "IRQ bits and waiting packets");
+        }
+}
+
 /* A transfer on the distinct record gives this byte and this record; `wanted` then starts over. */
 static void expect_transfer(uint8_t command, uint8_t byte, uint8_t wanted_byte, max3420e_chip *wanted, const char *what)
 {
@@ -183,6 +199,8 @@ static void check_transfers(void)
     next.ep2.ring.counts[1] = next.ep2.count = 33, next.ep2.ring.waiting = 2, next.ep2.writepos = 0;
     tie_irqs(&next);
     expect_transfer(0x3A, 33, 0, &next, "R7 written");
+    next.registers.epirq &= 0x27;
+    expect_transfer(0x5A, 0x18, 0, &next, "IN2BAVIRQ and IN3BAVIRQ cleared");
 }
 
 /* R5 to R20 as read from the distinct record. */
@@ -286,6 +304,7 @@ int main(void)
     check_gaps();
     for (size_t i = 0; i < COUNT(chip_fields); i++)
         check_limits(&chip_fields[i]);
+    check_irqs();
     check_transfers();
     check_registers();
     check_events();

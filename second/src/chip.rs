@@ -1,5 +1,6 @@
 //! The chip's record (document 01, "The record"), its power-on value and when it is sound (decision 29).
 
+use crate::flips::{flipped, Flip};
 use crate::resets::{reset, Reset};
 
 /// Bytes of an endpoint buffer.
@@ -243,8 +244,11 @@ impl Chip {
     }
 
     fn requests_fit(&self) -> bool {
-        self.has(EPIRQ, IN2BAVIRQ) == (self.ep2.waiting < 2)
-            && self.has(EPIRQ, IN3BAVIRQ) == (self.ep3_waiting == 0)
+        let (room2, room3) = (self.ep2.waiting < 2, self.ep3_waiting == 0);
+        let exact = self.has(EPIRQ, IN2BAVIRQ) == room2 && self.has(EPIRQ, IN3BAVIRQ) == room3;
+        (room2 || !self.has(EPIRQ, IN2BAVIRQ))
+            && (room3 || !self.has(EPIRQ, IN3BAVIRQ))
             && self.has(EPIRQ, OUT1DAVIRQ) == (self.ep1.waiting > 0)
+            && (exact || !flipped(Flip::SoundExactly))
     }
 }

@@ -14,8 +14,14 @@ macro_rules! flips {
 
 flips! {
     ToggleWhenSent = "an IN toggle flips when sent, not when acknowledged",
-    R11ClearsIn2bav = "R11: a 1 clears IN2BAVIRQ",
-    R11ClearsIn3bav = "R11: a 1 clears IN3BAVIRQ",
+    R11KeepsIn2bav = "R11: a 1 in IN2BAVIRQ does nothing",
+    R11KeepsIn3bav = "R11: a 1 in IN3BAVIRQ does nothing",
+    R11DropsEp2 = "R11: a 1 in IN2BAVIRQ drops a packet",
+    R11DropsEp3 = "R11: a 1 in IN3BAVIRQ drops the packet",
+    R7SetsIn2bav = "an arming that leaves room sets IN2BAVIRQ",
+    R7ByBit = "R7 arms only while IN2BAVIRQ is 1",
+    R8ByBit = "R8 arms only while IN3BAVIRQ is 1",
+    SoundExactly = "a BAV bit that is 0 with room to spare is unsound",
     WrongToggleNak = "a wrong toggle is NAKed",
     WrongToggleStored = "a wrong toggle is stored",
     Stlep0inStatus = "STLEP0IN stalls an IN status stage",

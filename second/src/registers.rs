@@ -73,10 +73,11 @@ fn arm_ep0(chip: &mut Chip, byte: u8) {
     chip.put(EPIRQ, IN0BAVIRQ, false);
 }
 
-/// R7: IN2BAVIRQ clears only when two now wait (decision 36).
+/// R7: IN2BAVIRQ clears only when two now wait, and is left as it is while there is room (decisions 36, 65).
 fn arm_ep2(chip: &mut Chip, byte: u8) {
     let n = if flipped(Flip::R7DropsBit7) { byte & 0x7F } else { byte };
-    if n as usize > BUFFER {
+    let locked = flipped(Flip::R7ByBit) && !chip.has(EPIRQ, IN2BAVIRQ);
+    if n as usize > BUFFER || locked {
         return;
     }
     if chip.ep2.waiting == 2 {
@@ -90,11 +91,14 @@ fn arm_ep2(chip: &mut Chip, byte: u8) {
     chip.r2_write = if flipped(Flip::ArmKeepsPosition) { chip.r2_write } else { 0 };
     if chip.ep2.waiting == 2 {
         chip.put(EPIRQ, IN2BAVIRQ, false);
+    } else if flipped(Flip::R7SetsIn2bav) {
+        chip.put(EPIRQ, IN2BAVIRQ, true);
     }
 }
 
 fn arm_ep3(chip: &mut Chip, n: u8) {
-    if n as usize > BUFFER || chip.ep3_waiting > 0 {
+    let locked = flipped(Flip::R8ByBit) && !chip.has(EPIRQ, IN3BAVIRQ);
+    if n as usize > BUFFER || chip.ep3_waiting > 0 || locked {
         return;
     }
     chip.set_r(EP3INBC, n);
@@ -113,16 +117,19 @@ fn write_clrtogs(chip: &mut Chip, byte: u8) {
     }
 }
 
+/// R11: a 1 clears, and no packet moves (decision 65); but in OUT1DAVIRQ it releases.
 fn write_epirq(chip: &mut Chip, byte: u8) {
-    chip.put(EPIRQ, byte & (SUDAVIRQ | OUT0DAVIRQ | IN0BAVIRQ), false);
+    let kept = if flipped(Flip::R11KeepsIn2bav) { IN2BAVIRQ } else { 0 };
+    let kept = if flipped(Flip::R11KeepsIn3bav) { kept | IN3BAVIRQ } else { kept };
+    chip.put(EPIRQ, byte & (SUDAVIRQ | IN3BAVIRQ | IN2BAVIRQ | OUT0DAVIRQ | IN0BAVIRQ) & !kept, false);
     if byte & OUT1DAVIRQ != 0 {
         release_ep1(chip);
     }
-    if flipped(Flip::R11ClearsIn2bav) {
-        chip.put(EPIRQ, byte & IN2BAVIRQ, false);
+    if flipped(Flip::R11DropsEp2) && byte & IN2BAVIRQ != 0 {
+        chip.ep2.pop();
     }
-    if flipped(Flip::R11ClearsIn3bav) {
-        chip.put(EPIRQ, byte & IN3BAVIRQ, false);
+    if flipped(Flip::R11DropsEp3) && byte & IN3BAVIRQ != 0 {
+        chip.ep3_waiting = 0;
     }
 }
 

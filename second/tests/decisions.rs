@@ -77,6 +77,25 @@ fn spi_side() {
 }
 
 #[test]
+fn bav_bits() {
+    // 65: a 1 clears, no packet moves; arming goes by room, and leaves a cleared bit clear
+    let one = [write(7, &[1]), spi(&[0x5A, 0x08])];
+    let (_, _, chip) = after_on(&one);
+    assert_eq!((chip.r(EPIRQ), chip.ep2.waiting), (0x11, 1));
+    let (_, _, chip) = after_on(&[spi(&[0x5A, 0x18]), write(7, &[1]), write(8, &[1])]);
+    assert_eq!((chip.r(EPIRQ), chip.ep2.waiting, chip.ep3_waiting), (0x01, 1, 1));
+    assert_eq!(after_on(&[&one[..], &[write(7, &[1]), write(7, &[1])]].concat()).2.ep2.waiting, 2);
+    // back at the acknowledged IN of that endpoint, and at a reset
+    assert_eq!(after_on(&[&one[..], &[take(0, 2, false)]].concat()).2.r(EPIRQ), 0x11);
+    assert_eq!(after_on(&[&one[..], &[take(0, 2, true)]].concat()).2.r(EPIRQ), 0x19);
+    let cleared = spi(&[0x5A, 0x18]);
+    assert_eq!(after_on(&[cleared.clone(), take(0, 3, true)]).2.r(EPIRQ), 0x01);
+    for reset in [plain(POWER_ON), plain(RESET_START), spi(&[0x7A, 0x28])] {
+        assert_eq!(after_on(&[cleared.clone(), reset]).2.r(EPIRQ), 0x19);
+    }
+}
+
+#[test]
 fn bus_side() {
     let (ack, nak, stall) = (0xD2, 0x5A, 0x1E);
     // 19

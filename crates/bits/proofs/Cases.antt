@@ -1,6 +1,6 @@
 -- How a test is taken apart: `cond` on one side, the same test on both sides, a conjunction, a list of clauses.
 use mathlib.Core.Path.{_≡_, refl, sym, ap, _∙_, subst}
-use mathlib.Core.Bool.{Bool, true, false, cond, _&&_, _||_, Bool·beq}
+use mathlib.Core.Bool.{Bool, true, false, not, cond, _&&_, _||_, Bool·beq}
 use mathlib.Core.List.{List, [], _∷_}
 use Prim.Native.Nat.{ℕ, zero, suc}
 use native.Mathlib.Omega.{arith}
@@ -43,6 +43,15 @@ and-true false b e = (e, cc)
 pub or-false : (a b : Bool) → (a || b) ≡ false → (a ≡ false) × (b ≡ false)
 or-false true b e = (e, cc)
 or-false false b e = (refl, e)
+
+-- a test holds where another fails: one of them holds
+pub or-implies : (a b : Bool) → (a || b) ≡ true → not a ≡ true → b ≡ true
+or-implies true b h e = true-is-false (sym e)
+or-implies false b h e = h
+
+pub implies-or : (a b : Bool) → (not a ≡ true → b ≡ true) → (a || b) ≡ true
+implies-or true b f = refl
+implies-or false b f = f refl
 
 -- every clause of a list that holds, by its place
 joined-at : (a : Bool) (bs : List Bool) → joined a bs ≡ true → (a ≡ true) × ((i : ℕ) → getD bs i true ≡ true)

@@ -1,6 +1,6 @@
 -- The laws of a mask: whether some bit of it is 1 after an operation. Any number, any masks: at numerals the masks on the
 -- right compute, so `has-and x 0xF7 4` says that `x & 0xF7` keeps bit 2 and `has-or x 8 8` that `x | 8` sets bit 3.
-use mathlib.Core.Path.{_≡_, sym, ap, _∙_}
+use mathlib.Core.Path.{_≡_, refl, sym, ap, _∙_}
 use mathlib.Core.Bool.{Bool, true, false, not, _||_}
 use Prim.Native.Nat.{ℕ, zero, suc, _+_, _-_, _*_, _^_, min, _<_, _≤_}
 use native.Mathlib.Nat.{lt-of-le-of-lt, zero-mul, one-mul, pow-suc, add-comm}
@@ -23,6 +23,7 @@ use lib.Bits.{
 }
 use borrow.Author.Tests.{eqb-true, ne-eqb, not-false}
 use Rattle.bits.specs.Bit.{bit, lacks, has, lowered, stored, masked}
+use Rattle.bits.proofs.Cases.{true-is-false}
 use Rattle.bits.proofs.Bit.{bit-lt, bit-and, bit-or, bit-ext, bit-high, bit-complement}
 
 -- ---- conjunction and disjunction
@@ -70,30 +71,38 @@ has-stored-other m true x p h d = has-or x m p ∙ ap (λ (t : Bool). t || has x
 has-stored-other m false x p h d = has-and x (255 - m) p ∙ ap (has x) d
 
 -- the complement of a byte has the bits of every mask apart from it
-complement-apart : (m q p : ℕ) → q < 256 → p < 256 → bitAnd q p ≡ 0 → bitAnd (255 - bitAnd m q) p ≡ p
-complement-apart m q p hq hp apart = bit-ext (bitAnd (255 - bitAnd m q) p) p same
+complement-apart : (m p : ℕ) → m < 256 → p < 256 → bitAnd m p ≡ 0 → bitAnd (255 - m) p ≡ p
+complement-apart m p hm hp apart = bit-ext (bitAnd (255 - m) p) p same
   where
-    small : bitAnd m q < 2 ^ 8
-    small = lt-of-le-of-lt (and-le-r m q) hq
+    none : (k : ℕ) → min (bit m k) (bit p k) ≡ 0
+    none k = sym (bit-and m p k) ∙ ap (λ (n : ℕ). bit n k) apart ∙ bit-high 0 0 k (omega arith) (omega arith)
 
-    none : (k : ℕ) → min (bit q k) (bit p k) ≡ 0
-    none k = sym (bit-and q p k) ∙ ap (λ (n : ℕ). bit n k) apart ∙ bit-high 0 0 k (omega arith) (omega arith)
-
-    same : (k : ℕ) → bit (bitAnd (255 - bitAnd m q) p) k ≡ bit p k
+    same : (k : ℕ) → bit (bitAnd (255 - m) p) k ≡ bit p k
     same k = elim (decLt k 8) [
-      | yes l ↦ bit-and (255 - bitAnd m q) p k ∙ omega (arith, bit-complement 8 k (bitAnd m q) small l, bit-and m q k, none k, bit-lt p k)
-      | no g ↦ bit-and (255 - bitAnd m q) p k ∙ omega (arith, bit-high 8 p k hp (omega arith))
+      | yes l ↦ bit-and (255 - m) p k ∙ omega (arith, bit-complement 8 k m hm l, none k, bit-lt p k)
+      | no g ↦ bit-and (255 - m) p k ∙ omega (arith, bit-high 8 p k hp (omega arith))
     ]
 
--- bits of m within q are lowered: a mask apart from q stays
-pub has-lowered-apart : (m q x p : ℕ) → q < 256 → p < 256 → bitAnd q p ≡ 0 → has (lowered (bitAnd m q) x) p ≡ has x p
-has-lowered-apart m q x p hq hp apart = has-and x (255 - bitAnd m q) p ∙ ap (has x) (complement-apart m q p hq hp apart)
+-- none of a mask is among a number's bits
+none-of : (x p : ℕ) → has x p ≡ false → bitAnd x p ≡ 0
+none-of x p h = eqb-true (bitAnd x p) 0 (not-false (eqb (bitAnd x p) 0) h)
+
+-- the bits of m are lowered: a mask apart from them stays
+pub has-lowered-apart : (m x p : ℕ) → m < 256 → p < 256 → has m p ≡ false → has (lowered m x) p ≡ has x p
+has-lowered-apart m x p hm hp apart = has-and x (255 - m) p ∙ ap (has x) (complement-apart m p hm hp (none-of m p apart))
 
 -- bits that are 0 stay 0 within any mask
 pub has-narrow : (x m p : ℕ) → has x p ≡ false → has x (bitAnd m p) ≡ false
 has-narrow x m p h =
-    let none : bitAnd x p ≡ 0 = eqb-true (bitAnd x p) 0 (not-false (eqb (bitAnd x p) 0) h) in
-    ap (λ (n : ℕ). not (eqb n 0)) (ap (bitAnd x) (and-comm m p) ∙ sym (and-assoc x p m) ∙ ap (λ (n : ℕ). bitAnd n m) none)
+    ap (λ (n : ℕ). not (eqb n 0)) (ap (bitAnd x) (and-comm m p) ∙ sym (and-assoc x p m) ∙ ap (λ (n : ℕ). bitAnd n m) (none-of x p h))
+
+-- and a bit that is 1 within a mask was 1
+pub has-and-was : (x m p : ℕ) → has (bitAnd x m) p ≡ true → has x p ≡ true
+has-and-was x m p one = was (has x p) refl
+  where
+    was : (t : Bool) → has x p ≡ t → t ≡ true
+    was true e = refl
+    was false e = true-is-false (sym one ∙ has-and x m p ∙ has-narrow x m p e)
 
 -- a mask's bits that x lacks stay 0 where none is set
 pub lacks-masked-kept : (keep set x p : ℕ) → lacks set p ≡ true → lacks x p ≡ true → lacks (masked keep set x) p ≡ true

@@ -6,7 +6,8 @@ use Rattle.chip.specs.Record.{powerOnChip}
 use Rattle.model.specs.Call.{Call, transfer, event, Entry, answerOf, callTo, runTo, history}
 use Rattle.model.specs.Book.{bookOf}
 use Rattle.rules.specs.Event.{max3420e}
-use Rattle.rules.specs.Ledger.{Ledger, blank, max3420eLedger}
+use Rattle.rules.specs.Ledger.{blank, max3420eLedger}
+use Rattle.rules.specs.Watch.{unwritten, max3420eWatch}
 use Rattle.rules.specs.Demand.{Demand3}
 use Rattle.rules.proofs.Theorem.{demand3}
 use Rattle.board_runs.specs.Made.{madeTo, madeRunTo, madeHistory}
@@ -28,7 +29,11 @@ history-is c (k ∷ ks) =
     ap (λ (es : List Entry). record { call = k; answer = answerOf max3420e c k } ∷ es)
     (ap (λ (d : Chip). history max3420e d ks) (made-is c k) ∙ history-is (madeTo c k) ks)
 
-pub made-demand3 : (ks : List Call) → Demand3 (bookOf max3420eLedger blank (madeHistory powerOnChip ks)) (madeRunTo powerOnChip ks)
+pub made-demand3 : (ks : List Call)
+    → Demand3 (bookOf max3420eLedger blank (madeHistory powerOnChip ks)) (bookOf max3420eWatch unwritten (madeHistory powerOnChip ks))
+    (madeRunTo powerOnChip ks)
 made-demand3 ks =
-    subst (λ (l : Ledger). Demand3 l (madeRunTo powerOnChip ks)) (ap (bookOf max3420eLedger blank) (history-is powerOnChip ks))
-    (subst (Demand3 (bookOf max3420eLedger blank (history max3420e powerOnChip ks))) (run-is powerOnChip ks) (demand3 ks))
+    subst (λ (es : List Entry). Demand3 (bookOf max3420eLedger blank es) (bookOf max3420eWatch unwritten es) (madeRunTo powerOnChip ks))
+    (history-is powerOnChip ks)
+    (subst (Demand3 (bookOf max3420eLedger blank (history max3420e powerOnChip ks))
+    (bookOf max3420eWatch unwritten (history max3420e powerOnChip ks))) (run-is powerOnChip ks) (demand3 ks))

@@ -1,6 +1,6 @@
 -- Soundness by its clauses, and back: a record is sound exactly if every clause of decision 29 holds of it.
 use mathlib.Core.Path.{_≡_, refl, sym, ap, _∙_}
-use mathlib.Core.Bool.{Bool, true, false, not, Bool·beq}
+use mathlib.Core.Bool.{Bool, true, false, not, _||_, Bool·beq}
 use mathlib.Core.List.{List, [], _∷_}
 use Prim.Native.Nat.{ℕ, zero, suc, _≤_}
 use native.Mathlib.Omega.{arith}
@@ -9,7 +9,7 @@ use lib.ListN.{length, getD, set}
 use borrow.Author.Tests.{leb-true, le-leb, not-false}
 use Rattle.bits.specs.Bit.{lacks, has}
 use Rattle.bits.specs.Flag.{isOn}
-use Rattle.bits.proofs.Cases.{clause-at, clauses-all, beq-eq, beq-refl}
+use Rattle.bits.proofs.Cases.{or-implies, implies-or, clause-at, clauses-all, beq-eq, beq-refl}
 use Rattle.bits.proofs.Flag.{Flags, flags-clauses, clauses-flags}
 use Rattle.bits.proofs.Mask.{has-none}
 use Rattle.bits.proofs.Rows.{set-keeps}
@@ -37,12 +37,12 @@ pub record SoundEp2 (q : Ring) (n w : ℕ) (bav : Bool) : Type 0 where
   pub ring : soundRing 2 q ≡ true
   pub count : n ≤ 64
   pub writepos : w ≤ 64
-  pub irq : bav ≡ ltb (q .waiting) 2
+  pub irq : bav ≡ true → ltb (q .waiting) 2 ≡ true
 
 pub record SoundEp3 (n w armed : ℕ) (bav : Bool) : Type 0 where
   pub count : n ≤ 64
   pub writepos : w ≤ 64
-  pub irq : bav ≡ not (isOn armed)
+  pub irq : bav ≡ true → not (isOn armed) ≡ true
 
 -- each number of a list lacks the bits of its mask
 abbrev pub Clean : List ℕ → List ℕ → Type 0
@@ -87,7 +87,7 @@ sound-clauses c t =
     let ep2 = clause-at (soundRing 2 (c .ep2 .ring) ∷ leb (c .ep2 .count) 64 ∷ leb (c .ep2 .writepos) 64 ∷ []) (part 2) in
     let ep3 = clause-at (leb (c .ep3 .count) 64 ∷ leb (c .ep3 .writepos) 64 ∷ []) (part 3) in
     let irqs = clause-at
-    (Bool·beq (has (g .epirq) in2bavirq) (ltb (c .ep2 .ring .waiting) 2) ∷ Bool·beq (has (g .epirq) in3bavirq) (not (isOn (c .ep3 .armed))) ∷
+    ((lacks (g .epirq) in2bavirq || ltb (c .ep2 .ring .waiting) 2) ∷ (lacks (g .epirq) in3bavirq || not (isOn (c .ep3 .armed))) ∷
     Bool·beq (has (g .epirq) out1davirq) (ltb 0 (c .ep1 .ring .waiting)) ∷ []) (part 5) in
     record {
       ep0 = record {
@@ -105,12 +105,12 @@ sound-clauses c t =
         ring = ep2 0;
         count = leb-true (c .ep2 .count) 64 (ep2 1);
         writepos = leb-true (c .ep2 .writepos) 64 (ep2 2);
-        irq = beq-eq (has (g .epirq) in2bavirq) (ltb (c .ep2 .ring .waiting) 2) (irqs 0);
+        irq = or-implies (lacks (g .epirq) in2bavirq) (ltb (c .ep2 .ring .waiting) 2) (irqs 0);
       };
       ep3 = record {
         count = leb-true (c .ep3 .count) 64 (ep3 0);
         writepos = leb-true (c .ep3 .writepos) 64 (ep3 1);
-        irq = beq-eq (has (g .epirq) in3bavirq) (not (isOn (c .ep3 .armed))) (irqs 1);
+        irq = or-implies (lacks (g .epirq) in3bavirq) (not (isOn (c .ep3 .armed))) (irqs 1);
       };
       unused = λ i. ap not (sym (lack-at (bytesOf g) unusedRegisters i refl) ∙ clause-at (lackEach (bytesOf g) unusedRegisters) (part 4) i);
       flags = flags-clauses (flagsOf c) (part 6);
@@ -139,10 +139,8 @@ clauses-sound c s =
       le-leb (c .ep3 .writepos) 64 (s .ep3 .writepos),
       registers-sound c (s .unused),
       clauses-flags (flagsOf c) (s .flags),
-      s .ep2 .irq,
-      s .ep3 .irq,
+      implies-or (lacks (c .registers .epirq) in2bavirq) (ltb (c .ep2 .ring .waiting) 2) (s .ep2 .irq),
+      implies-or (lacks (c .registers .epirq) in3bavirq) (not (isOn (c .ep3 .armed))) (s .ep3 .irq),
       s .ep1 .irq,
-      beq-refl (ltb (c .ep2 .ring .waiting) 2),
-      beq-refl (not (isOn (c .ep3 .armed))),
       beq-refl (ltb 0 (c .ep1 .ring .waiting)),
     )

@@ -95,7 +95,7 @@ epirqBits = sudavirq + in3bavirq + in2bavirq + out1davirq + out0davirq + in0bavi
 
 -- those that a 1 clears and no packet goes with
 abbrev pub clearedEpirqs : ℕ
-clearedEpirqs = sudavirq + out0davirq + in0bavirq
+clearedEpirqs = sudavirq + in3bavirq + in2bavirq + out0davirq + in0bavirq
 
 -- the IN buffers are available
 abbrev pub availableIrqs : ℕ

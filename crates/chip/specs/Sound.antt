@@ -1,6 +1,6 @@
 -- When a record is sound: every clause of document 01, "It is sound when" (decision 29). Ours, beyond the document's words: the
 -- oldest packet of a ring is in one of its two buffers; bits 4..2 of R10, which read back 0, count as unused; every flag is 0 or 1.
-use mathlib.Core.Bool.{Bool, not, Bool·beq}
+use mathlib.Core.Bool.{Bool, not, _||_, Bool·beq}
 use mathlib.Core.List.{List, [], _∷_}
 use Prim.Native.Nat.{ℕ}
 use lib.Dec.{ltb, leb}
@@ -45,12 +45,12 @@ unusedRegisters = drop 4 unused
 abbrev pub soundRegisters : Registers → Bool
 soundRegisters g = clauses (lackEach (bytesOf g) unusedRegisters)
 
--- IN2BAVIRQ is 1 exactly if fewer than two wait, IN3BAVIRQ exactly if none, OUT1DAVIRQ exactly if one or two do
+-- IN2BAVIRQ is 1 only if fewer than two wait, IN3BAVIRQ only if none does (Ask 2); OUT1DAVIRQ is 1 exactly if one or two do
 abbrev pub soundIrqs : Chip → Bool
 soundIrqs c =
     clauses
-    (Bool·beq (has (c .registers .epirq) in2bavirq) (ltb (c .ep2 .ring .waiting) 2) ∷
-    Bool·beq (has (c .registers .epirq) in3bavirq) (not (isOn (c .ep3 .armed))) ∷
+    ((lacks (c .registers .epirq) in2bavirq || ltb (c .ep2 .ring .waiting) 2) ∷
+    (lacks (c .registers .epirq) in3bavirq || not (isOn (c .ep3 .armed))) ∷
     Bool·beq (has (c .registers .epirq) out1davirq) (ltb 0 (c .ep1 .ring .waiting)) ∷ [])
 
 -- flags are 0 or 1; so 0..1 packets wait at endpoint 0 IN and at endpoint 3

@@ -265,7 +265,7 @@ impl Chip {
     pub const EPIRQ_BITS: u8 = 0x3f;
 
     // Those that a 1 clears and no packet goes with.
-    pub const CLEARED_EPIRQS: u8 = 0x23;
+    pub const CLEARED_EPIRQS: u8 = 0x3b;
 
     // R12, EPIEN
     pub const EPIEN_BITS: u8 = 0x3f;
@@ -360,13 +360,13 @@ impl Chip {
         }
     }
 
-    // The IRQ bits tell whether packets wait.
+    // What the IRQ bits tell of waiting packets is so.
     fn sound_irqs(self) -> bool
         ensures { λ r. ⌜ r ≡ soundIrqs self ⌝ }
     {
         let irqs = self.registers.epirq;
-        ((irqs & Chip::IN2BAVIRQ != 0) == (self.ep2.ring.waiting < 2))
-            & ((irqs & Chip::IN3BAVIRQ != 0) == (self.ep3.armed != 1))
+        ((irqs & Chip::IN2BAVIRQ == 0) | (self.ep2.ring.waiting < 2))
+            & ((irqs & Chip::IN3BAVIRQ == 0) | (self.ep3.armed != 1))
             & ((irqs & Chip::OUT1DAVIRQ != 0) == (0 < self.ep1.ring.waiting))
     }
 

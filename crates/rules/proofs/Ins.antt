@@ -31,18 +31,18 @@ use Rattle.rules.specs.Control.{setupByte, setsAddress}
 use Rattle.rules.specs.In.{setInak, addressed, inOutcome, ep0Gone, in0Gone, in0Verdict, in0, in2Gone, in2}
 use Rattle.rules.specs.In.{in3Gone, in3Verdict, in3}
 use Rattle.rules.specs.Event.{inEvent}
-use Rattle.rules.specs.Ledger.{Ledger, noteIn, noteSent, senderAcknowledged, setSender}
-use Rattle.rules.proofs.Agree.{Agree, with-unused, with-flags}
+use Rattle.rules.specs.Ledger.{noteIn, noteSent, senderAcknowledged, setSender}
+use Rattle.rules.proofs.Agree.{Books, Agree, with-unused, with-flags, tells-same}
 use Rattle.rules.proofs.Irqs.{clean-epirq, agree-epirq, leaves-raised}
 use Rattle.rules.proofs.Events.{Kept, Left}
 
 -- ---- what every endpoint has in common
 
 -- R17 has all eight bits
-inak-keeps : (l : Ledger) (c : Chip) (m : ℕ) → Agree l c → Agree l (setInak m c)
+inak-keeps : (l : Books) (c : Chip) (m : ℕ) → Agree l c → Agree l (setInak m c)
 inak-keeps l c m i = with-unused i (clean-set-any (bytesOf (c .registers)) unusedRegisters 8 _ (i .unused) refl)
 
-addressed-keeps : (l : Ledger) (c : Chip) → Agree l c → Agree l (addressed c)
+addressed-keeps : (l : Books) (c : Chip) → Agree l c → Agree l (addressed c)
 addressed-keeps l c i =
     cond-elim (Agree l) (setsAddress c)
     (λ _. with-unused i
@@ -51,7 +51,7 @@ addressed-keeps l c i =
     (λ _. i)
 
 -- where the record after the packet has left agrees, so does the record after any verdict
-in-keeps : (l : Ledger) (inak : ℕ) (packet : Reply) (gone c : Chip) (arrives : Bool) → Agree l c → Agree l gone → (v : InVerdict)
+in-keeps : (l : Books) (inak : ℕ) (packet : Reply) (gone c : Chip) (arrives : Bool) → Agree l c → Agree l gone → (v : InVerdict)
     → Left l (inOutcome inak packet gone c arrives v)
 in-keeps l inak packet gone c arrives i j Silent = i
 in-keeps l inak packet gone c arrives i j Stall = i
@@ -61,14 +61,14 @@ in-keeps l inak packet gone c arrives i j Status = cond-elim (Agree l) arrives (
 
 -- ---- endpoints 0 and 3
 
-in0-gone : (l : Ledger) (c : Chip) → Agree l c → Agree l (in0Gone c)
+in0-gone : (l : Books) (c : Chip) → Agree l c → Agree l (in0Gone c)
 in0-gone l c i =
     agree-epirq l (setEp0 (ep0Gone (c .ep0)) c) (raised in0bavirq (c .registers .epirq))
     (leaves-raised in0bavirq (c .registers .epirq) refl refl refl refl)
     (with-flags i
     (flags-set _ 1 _ (flags-set (flagsOf c) 0 0 (i .flags) (omega arith)) (flipped-flag (c .ep0 .intoggle))))
 
-in3-gone : (l : Ledger) (c : Chip) → Agree l c → Agree l (in3Gone c)
+in3-gone : (l : Books) (c : Chip) → Agree l c → Agree l (in3Gone c)
 in3-gone l c i =
     let x : ℕ = c .registers .epirq in
     record {
@@ -76,15 +76,19 @@ in3-gone l c i =
       receives = rw (has-or x in3bavirq out1davirq) (i .receives);
       connection = i .connection;
       ep0 = i .ep0;
-      ep3 = record { count = i .ep3 .count; writepos = i .ep3 .writepos; irq = has-or x in3bavirq in3bavirq };
+      ep3 = record { count = i .ep3 .count; writepos = i .ep3 .writepos; irq = λ _. refl };
       unused = clean-epirq c (raised in3bavirq x) (has-or x in3bavirq (unusedOf 11)) (i .unused);
       flags = flags-set _ 7 _ (flags-set (flagsOf c) 6 0 (i .flags) (omega arith)) (flipped-flag (c .ep3 .toggle));
     }
 
 -- ---- endpoint 2: what is sent is the oldest waiting packet
 
-in2-gone : (l : Ledger) (c : Chip) → 0 < c .ep2 .ring .waiting → Agree l c
-    → Agree (setSender (senderAcknowledged (l .sender) (oldestPacket 2 (c .ep2 .ring))) l) (in2Gone c)
+-- the packet joins the ledger's acknowledged
+abbrev acknowledges : Books → List ℕ → Books
+acknowledges l vs = (setSender (senderAcknowledged (l .0 .sender) vs) (l .0), l .1)
+
+in2-gone : (l : Books) (c : Chip) → 0 < c .ep2 .ring .waiting → Agree l c
+    → Agree (acknowledges l (oldestPacket 2 (c .ep2 .ring))) (in2Gone c)
 in2-gone l c some i =
     let r : Ring = c .ep2 .ring in
     let s = i .sends in
@@ -94,14 +98,14 @@ in2-gone l c some i =
       sends = record {
         fits = fits-release 2 r (s .fits);
         queued =
-            s .queued ∙ ap (λ (q : List (List ℕ)). l .sender .acknowledged ++ q) (queue-release 2 r some)
-            ∙ sym (append-assoc (l .sender .acknowledged) (oldestPacket 2 r ∷ []) (queue 2 (releaseOldest 2 r)));
+            s .queued ∙ ap (λ (q : List (List ℕ)). l .0 .sender .acknowledged ++ q) (queue-release 2 r some)
+            ∙ sym (append-assoc (l .0 .sender .acknowledged) (oldestPacket 2 r ∷ []) (queue 2 (releaseOldest 2 r)));
         bytes = rw (release-some 2 r some) (s .bytes);
         turn = s .turn ∙ sym (next-release 2 r some);
         place = s .place;
         writepos = s .writepos;
         count = s .count;
-        irq = has-or x in2bavirq in2bavirq ∙ sym (rw (release-some 2 r some) (lt-ltb (r .waiting - 1) 2 fewer));
+        irq = tells-same (has-or x in2bavirq in2bavirq ∙ sym (rw (release-some 2 r some) (lt-ltb (r .waiting - 1) 2 fewer)));
       };
       receives = rw (has-or x in2bavirq out1davirq) (i .receives);
       connection = i .connection;
@@ -112,17 +116,17 @@ in2-gone l c some i =
     }
 
 -- with what the ledger notes of the reply, where the ACK arrives or not
-abbrev Sent : Ledger → Bool → Outcome Chip Reply → Type 0
-Sent l arrives o = Agree (cond arrives (noteSent l (o .gives)) l) (o .state)
+abbrev Sent : Books → Bool → Outcome Chip Reply → Type 0
+Sent l arrives o = Agree (cond arrives (noteSent (l .0) (o .gives)) (l .0), l .1) (o .state)
 
-in2-sent : (l : Ledger) (c : Chip) (arrives : Bool) → 0 < c .ep2 .ring .waiting → Agree l c
-    → Agree (cond arrives (setSender (senderAcknowledged (l .sender) (oldestPacket 2 (c .ep2 .ring))) l) l) (cond arrives (in2Gone c) c)
+in2-sent : (l : Books) (c : Chip) (arrives : Bool) → 0 < c .ep2 .ring .waiting → Agree l c
+    → Agree (cond arrives (acknowledges l (oldestPacket 2 (c .ep2 .ring)) .0) (l .0), l .1) (cond arrives (in2Gone c) c)
 in2-sent l c true some i = in2-gone l c some i
 in2-sent l c false some i = i
 
-in2-keeps : (l : Ledger) (c : Chip) (arrives : Bool) → Agree l c → Sent l arrives (in2 c arrives)
+in2-keeps : (l : Books) (c : Chip) (arrives : Bool) → Agree l c → Sent l arrives (in2 c arrives)
 in2-keeps l c arrives i =
-    let none-noted : cond arrives l l ≡ l = cond-same arrives l in
+    let none-noted : cond arrives (l .0) (l .0) ≡ l .0 = cond-same arrives (l .0) in
     first-elim (λ (v : InVerdict). Sent l arrives
     (inOutcome ep2inak (sent (isOn (c .ep2 .toggle)) (oldestPacket 2 (c .ep2 .ring))) (in2Gone c) c arrives v))
     ((has (c .registers .clrtogs) ep2disab, Silent) ∷ (has (c .registers .epstalls) stlep2in, Stall) ∷
@@ -136,13 +140,13 @@ in2-keeps l c arrives i =
 
 -- ---- the event
 
-abbrev Noted : Ledger → Event → List ℕ → Outcome Chip Reply → Type 0
-Noted l e vs o = Agree (noteIn l e vs (o .gives)) (o .state)
+abbrev Noted : Books → Event → List ℕ → Outcome Chip Reply → Type 0
+Noted l e vs o = Agree (noteIn (l .0) e vs (o .gives), l .1) (o .state)
 
 pub keeps-in : (n : ℕ) → Kept n inEvent noteIn
 keeps-in n l c e vs _ _ _ i =
     let arrives : Bool = e .acknowledged in
-    let silent : Noted l e vs (outcome c silence) = rw (cond-same (eqb (e .endpoint) 2 && arrives) l) i in
+    let silent : Noted l e vs (outcome c silence) = rw (cond-same (eqb (e .endpoint) 2 && arrives) (l .0)) i in
     cond-elim (Noted l e vs) (heard c false (e .address))
     (λ _. first-each (Noted l e vs)
     ((eqb (e .endpoint) 0, in0 c arrives) ∷ (eqb (e .endpoint) 2, in2 c arrives) ∷ (eqb (e .endpoint) 3, in3 c arrives) ∷ [])

@@ -27,18 +27,18 @@ use Rattle.rules.specs.declared.OutVerdict.the-variants.{Silent, Stall, 
 use Rattle.rules.specs.Seen.{heard}
 use Rattle.rules.specs.Out.{outOutcome, ep0Filled, out0Taken, out0Verdict, out0, out1Taken, out1}
 use Rattle.rules.specs.Event.{outEvent}
-use Rattle.rules.specs.Ledger.{Ledger, noteOut, receiverStored, setReceiver}
-use Rattle.rules.proofs.Agree.{Agree, with-ep0, with-flags}
+use Rattle.rules.specs.Ledger.{noteOut, receiverStored, setReceiver}
+use Rattle.rules.proofs.Agree.{Books, Agree, with-ep0, with-flags}
 use Rattle.rules.proofs.Irqs.{clean-epirq, agree-epirq, leaves-raised}
 use Rattle.rules.proofs.Events.{Kept}
 
 -- record and reply together, with what the ledger notes of the reply
-abbrev Noted : Ledger → Event → List ℕ → Outcome Chip Reply → Type 0
-Noted l e vs o = Agree (noteOut l e vs (o .gives)) (o .state)
+abbrev Noted : Books → Event → List ℕ → Outcome Chip Reply → Type 0
+Noted l e vs o = Agree (noteOut (l .0) e vs (o .gives), l .1) (o .state)
 
 -- ---- endpoint 0
 
-out0-keeps : (l : Ledger) (c : Chip) (vs : List ℕ) → length vs ≤ 64 → Agree l c → (v : OutVerdict) → Agree l
+out0-keeps : (l : Books) (c : Chip) (vs : List ℕ) → length vs ≤ 64 → Agree l c → (v : OutVerdict) → Agree l
     (outOutcome c (out0Taken c vs) v .state)
 out0-keeps l c vs short i Silent = i
 out0-keeps l c vs short i Stall = i
@@ -54,8 +54,8 @@ out0-keeps l c vs short i Store =
 
 -- ---- endpoint 1
 
-ep1-stores : (l : Ledger) (c : Chip) (vs : List ℕ) → length vs ≤ 64 → c .ep1 .ring .waiting < 2 → Agree l c
-    → Agree (setReceiver (receiverStored (l .receiver) vs) l) (out1Taken c vs)
+ep1-stores : (l : Books) (c : Chip) (vs : List ℕ) → length vs ≤ 64 → c .ep1 .ring .waiting < 2 → Agree l c
+    → Agree (setReceiver (receiverStored (l .0 .receiver) vs) (l .0), l .1) (out1Taken c vs)
 ep1-stores l c vs short room i =
     let r : Ring = c .ep1 .ring in
     let s = i .receives in
@@ -65,8 +65,8 @@ ep1-stores l c vs short room i =
       receives = record {
         fits = fits-fill 2 r (s .fits) room vs short;
         queued =
-            ap (λ (q : List (List ℕ)). q ++ (vs ∷ [])) (s .queued) ∙ append-assoc (l .receiver .released) (queue 2 r) (vs ∷ [])
-            ∙ ap (λ (q : List (List ℕ)). l .receiver .released ++ q) (sym (queue-fill 2 r (s .fits) room vs short));
+            ap (λ (q : List (List ℕ)). q ++ (vs ∷ [])) (s .queued) ∙ append-assoc (l .0 .receiver .released) (queue 2 r) (vs ∷ [])
+            ∙ ap (λ (q : List (List ℕ)). l .0 .receiver .released ++ q) (sym (queue-fill 2 r (s .fits) room vs short));
         toggled = ap flipped (s .toggled);
         readpos = s .readpos;
         irq = has-or x out1davirq out1davirq ∙ sym (lt-ltb 0 (r .waiting + 1) (omega arith));
@@ -79,7 +79,7 @@ ep1-stores l c vs short room i =
     }
 
 -- stored or dropped by the toggle, which ledger and record hold alike
-out1-keeps : (l : Ledger) (c : Chip) (e : Event) (vs : List ℕ) → eqb (e .endpoint) 1 ≡ true → length vs ≤ 64 → Agree l c
+out1-keeps : (l : Books) (c : Chip) (e : Event) (vs : List ℕ) → eqb (e .endpoint) 1 ≡ true → length vs ≤ 64 → Agree l c
     → Noted l e vs (out1 c (e .data1) vs)
 out1-keeps l c e vs one short i =
     first-elim (λ (v : OutVerdict). Noted l e vs (outOutcome c (out1Taken c vs) v))
@@ -88,7 +88,7 @@ out1-keeps l c e vs one short i =
     ((λ _. rw one i) ⨾ (λ _. rw one i) ⨾ (λ _. rw one i) ⨾ dropped ⨾ none)
     (λ free. taken (leb-false 2 (c .ep1 .ring .waiting) (free 2)) (free 3))
   where
-    same : Bool·beq (e .data1) (isOn (l .receiver .toggle)) ≡ Bool·beq (e .data1) (isOn (c .ep1 .toggle))
+    same : Bool·beq (e .data1) (isOn (l .0 .receiver .toggle)) ≡ Bool·beq (e .data1) (isOn (c .ep1 .toggle))
     same = ap (λ (t : ℕ). Bool·beq (e .data1) (isOn t)) (i .receives .toggled)
 
     dropped : not (Bool·beq (e .data1) (isOn (c .ep1 .toggle))) ≡ true → Noted l e vs (outcome c ack)
@@ -112,5 +112,5 @@ keeps-out l c e vs code short _ i =
     (silent l e vs i))
     (λ _. silent l e vs i)
   where
-    silent : (l : Ledger) (e : Event) (vs : List ℕ) → Agree l c → Agree (noteOut l e vs silence) c
+    silent : (l : Books) (e : Event) (vs : List ℕ) → Agree l c → Noted l e vs (outcome c silence)
     silent l e vs i = rw (and-false (eqb (e .endpoint) 1)) i

@@ -10,13 +10,12 @@ use Rattle.chip.specs.declared.Chip.{Chip}
 use Rattle.model.specs.Reply.{Outcome}
 use Rattle.model.proofs.Keeps.{KeepsRead}
 use Rattle.rules.specs.Read.{ReadRule, readEp0fifo, readEp1outfifo, readSudfifo, readNothing, readControl}
-use Rattle.rules.specs.Ledger.{Ledger}
-use Rattle.rules.proofs.Agree.{Agree, with-receives, with-ep0}
+use Rattle.rules.proofs.Agree.{Books, Agree, with-receives, with-ep0}
 
 abbrev pub Kept : ReadRule → Type 0
 Kept r = KeepsRead Agree r
 
-abbrev After : Ledger → Outcome Chip ℕ → Type 0
+abbrev After : Books → Outcome Chip ℕ → Type 0
 After l o = Agree l (o .state)
 
 pub keeps-ep0fifo : Kept readEp0fifo

@@ -7,6 +7,7 @@ use lib.ListN.{length, length-map}
 use denote.Laws.{Is}
 use denote.Struct.Declared.{row}
 use mir.Val.{Val}
+use Rattle.bits.proofs.Cases.{true-is-false}
 use Rattle.ring.specs.declared.Ring.{Ring}
 use Rattle.ring.specs.Ring.{queue, nextBuffer, soundRing, Fits}
 use Rattle.ring.proofs.Ring as ring
@@ -19,6 +20,7 @@ use Rattle.model.proofs.Keeps.{run-keeps, run-always}
 use Rattle.rules.specs.Seen.{connectionOf}
 use Rattle.rules.specs.Event.{max3420e}
 use Rattle.rules.specs.Ledger.{Ledger}
+use Rattle.rules.specs.Watch.{Watch}
 use Rattle.rules.proofs.Agree.{Agree}
 use Rattle.rules.proofs.Lawful.{max3420e-lawful}
 
@@ -43,7 +45,11 @@ ledgerOf c = record {
   connection = connectionOf c;
 }
 
-agrees : (c : Chip) {vs : List Val} → Is (row chip.the-type) c vs → Sound c → Agree (ledgerOf c) c
+-- and a watch in whose run a 1 was written to IN2BAVIRQ, as in some run it was
+abbrev watchOf : Chip → Watch
+watchOf c = record { usbctl = c .registers .usbctl; written = true }
+
+agrees : (c : Chip) {vs : List Val} → Is (row chip.the-type) c vs → Sound c → Agree (ledgerOf c, watchOf c) c
 agrees c g s = record {
   sends = record {
     fits = fits (c .ep2 .ring) (g .1 .1 .1 .1 .0 .1 .1 .0) (s .ep2 .ring);
@@ -53,7 +59,7 @@ agrees c g s = record {
     place = refl;
     writepos = s .ep2 .writepos;
     count = s .ep2 .count;
-    irq = s .ep2 .irq;
+    irq = record { only = s .ep2 .irq; exactly = λ e. true-is-false e };
   };
   receives = record {
     fits = fits (c .ep1 .ring) (g .1 .1 .1 .0 .1 .1 .0) (s .ep1 .ring);
@@ -62,7 +68,7 @@ agrees c g s = record {
     readpos = s .ep1 .readpos;
     irq = s .ep1 .irq;
   };
-  connection = refl;
+  connection = record { ledger = refl; watch = refl };
   ep0 = s .ep0;
   ep3 = s .ep3;
   unused = s .unused;
@@ -74,4 +80,4 @@ pub stays-sound : (c : Chip) {vs : List Val} → Is (row chip.the-type) c vs →
     → soundChip (runTo max3420e c ks) ≡ true
 stays-sound c g s ks =
     max3420e-lawful .sound _ _
-    (run-keeps (max3420e-lawful .keeps) ks (ledgerOf c) c (run-always max3420e ks c) (agrees c g (sound-clauses c s)))
+    (run-keeps (max3420e-lawful .keeps) ks (ledgerOf c, watchOf c) c (run-always max3420e ks c) (agrees c g (sound-clauses c s)))

@@ -1,7 +1,7 @@
 -- Demand 3, for every list of calls from power-on and with no hypothesis on the list; that every record of a run is sound; that
 -- refusal 1 never answers a run; that a refused call changes neither record nor ledger; when each refusal is given. First over any chip
 -- that is lawful, then of the MAX3420E. The theorems assume nothing: no axiom, and no condition on bytes, events or buffers.
-use mathlib.Core.Path.{_≡_, sym, ap, _∙_}
+use mathlib.Core.Path.{_≡_, sym, ap, _∙_, subst}
 use mathlib.Core.Logic.{_↔_}
 use mathlib.Core.Bool.{Bool, true}
 use mathlib.Core.List.{List, _++_}
@@ -23,42 +23,53 @@ use Rattle.chip.specs.Sound.{soundChip}
 use Rattle.model.specs.Call.{Call, transfer, event, refused, grounds, Model, checked, callTo, answerOf, runTo, history}
 use Rattle.model.specs.Book.{Book, note, bookOf}
 use Rattle.model.proofs.Refusals.{sound-accepted, refusal-exactly}
+use Rattle.model.proofs.Books.{both, book-both}
 use Rattle.model.proofs.Keeps.{run-keeps, run-always, refused-keeps}
 use Rattle.rules.specs.Event.{max3420e}
 use Rattle.rules.specs.Ledger.{Ledger, blank, max3420eLedger}
+use Rattle.rules.specs.Watch.{Watch, unwritten, max3420eWatch}
 use Rattle.rules.specs.Demand.{Demand3}
-use Rattle.rules.proofs.Agree.{Agree}
-use Rattle.rules.proofs.Lawful.{Lawful, max3420e-lawful}
+use Rattle.rules.proofs.Agree.{Books, Agree}
+use Rattle.rules.proofs.Lawful.{Invariant, Lawful, max3420e-lawful}
 
 -- ---- what the agreement says of the record
 
--- a bit of a register, as it reads, tells an order
+-- a bit of a register, as it reads, is 1 only where an order holds
+bit-implies : (x k n m : ℕ) → (has x (2 ^ k) ≡ true → ltb n m ≡ true) → bit x k ≡ 1 → n < m
+bit-implies x k n m h one = ltb-true n m (h (has-bit x k ∙ eq-eqb (bit x k) 1 one))
+
+-- or tells it
 bit-tells : (x k n m : ℕ) → has x (2 ^ k) ≡ ltb n m → (bit x k ≡ 1) ↔ (n < m)
 bit-tells x k n m h = (
-  λ one. ltb-true n m (sym h ∙ has-bit x k ∙ eq-eqb (bit x k) 1 one),
+  bit-implies x k n m (λ one. sym h ∙ one),
   λ less. eqb-true (bit x k) 1
       (sym (has-bit x k) ∙ h ∙ lt-ltb n m less),
 )
 
-agree-demand : (l : Ledger) (c : Chip) → Agree l c → Demand3 l c
+agree-demand : (l : Books) (c : Chip) → Agree l c → Demand3 (l .0) (l .1) c
 agree-demand l c i = record {
   sent = i .sends .queued;
   received = i .receives .queued;
   most2 = rw (queue-length 2 (c .ep2 .ring)) (sound-most 2 (c .ep2 .ring) (i .sends .fits .sound));
   most1 = rw (queue-length 2 (c .ep1 .ring)) (sound-most 2 (c .ep1 .ring) (i .receives .fits .sound));
-  in2bavirq = rw (queue-length 2 (c .ep2 .ring)) (bit-tells (c .registers .epirq) 3 (c .ep2 .ring .waiting) 2 (i .sends .irq));
+  in2bavirq = rw (queue-length 2 (c .ep2 .ring)) (bit-implies (c .registers .epirq) 3 (c .ep2 .ring .waiting) 2 (i .sends .irq .only));
   out1davirq = rw (queue-length 2 (c .ep1 .ring)) (bit-tells (c .registers .epirq) 2 0 (c .ep1 .ring .waiting) (i .receives .irq));
+  in2exactly = λ none.
+      rw (queue-length 2 (c .ep2 .ring)) (bit-tells (c .registers .epirq) 3 (c .ep2 .ring .waiting) 2 (i .sends .irq .exactly none));
 }
 
 -- ---- any chip that is lawful
 
-module _ {R : Type 0} (core : R → Chip) (I : Ledger → R → Type 0) (m : Model R) (q : Book Ledger) (w : Lawful core I m q) where
+module _ {R : Type 0} {core : R → Chip} {I : Invariant R} {m : Model R} {p : Book Ledger} {q : Book Watch} (w : Lawful core I m p q) where
   -- the invariant holds after every list of calls
-  pub run-invariant : (ks : List Call) → I (bookOf q blank (history m (m .start) ks)) (runTo m (m .start) ks)
-  run-invariant ks = run-keeps (w .keeps) ks blank (m .start) (run-always m ks (m .start)) (w .starts)
+  pub run-invariant : (ks : List Call) → I (bookOf (both p q) (blank, unwritten) (history m (m .start) ks)) (runTo m (m .start) ks)
+  run-invariant ks = run-keeps (w .keeps) ks (blank, unwritten) (m .start) (run-always m ks (m .start)) (w .starts)
 
-  pub run-demand : (ks : List Call) → Demand3 (bookOf q blank (history m (m .start) ks)) (core (runTo m (m .start) ks))
-  run-demand ks = agree-demand _ _ (w .agrees _ _ (run-invariant ks))
+  pub run-demand : (ks : List Call)
+      → Demand3 (bookOf p blank (history m (m .start) ks)) (bookOf q unwritten (history m (m .start) ks)) (core (runTo m (m .start) ks))
+  run-demand ks =
+      subst (λ (l : Books). Demand3 (l .0) (l .1) (core (runTo m (m .start) ks)))
+      (book-both p q (w .alike) (history m (m .start) ks) (blank, unwritten)) (agree-demand _ _ (w .agrees _ _ (run-invariant ks)))
 
   pub run-sound : (ks : List Call) → m .sound (runTo m (m .start) ks) ≡ true
   run-sound ks = w .sound _ _ (run-invariant ks)
@@ -67,21 +78,23 @@ module _ {R : Type 0} (core : R → Chip) (I : Ledger → R → Type 0) (m : Mod
   run-accepted ks k e =
       let c : R = runTo m (m .start) ks in
       sound-accepted k (m .further c k) (w .further c k)
-      (ap (λ (t : Bool). check (grounds t k ++ m .further c k)) (sym (run-sound ks)) ∙ refused-keeps m q blank c k Unsound e .2)
+      (ap (λ (t : Bool). check (grounds t k ++ m .further c k)) (sym (run-sound ks)) ∙ refused-keeps m p blank c k Unsound e .2)
 
 -- ---- the MAX3420E
 
 -- demand 3
-pub demand3 : (ks : List Call) → Demand3 (bookOf max3420eLedger blank (history max3420e powerOnChip ks)) (runTo max3420e powerOnChip ks)
-demand3 = run-demand (λ c. c) Agree max3420e max3420eLedger max3420e-lawful
+pub demand3 : (ks : List Call)
+    → Demand3 (bookOf max3420eLedger blank (history max3420e powerOnChip ks)) (bookOf max3420eWatch unwritten (history max3420e powerOnChip ks))
+    (runTo max3420e powerOnChip ks)
+demand3 = run-demand max3420e-lawful
 
 -- everything reached from power-on is sound
 pub reached-sound : (ks : List Call) → soundChip (runTo max3420e powerOnChip ks) ≡ true
-reached-sound = run-sound (λ c. c) Agree max3420e max3420eLedger max3420e-lawful
+reached-sound = run-sound max3420e-lawful
 
 -- so refusal 1 never answers a run
 pub reached-accepted : (ks : List Call) (k : Call) → answerOf max3420e (runTo max3420e powerOnChip ks) k ≡ refused Unsound → ⊥
-reached-accepted = run-accepted (λ c. c) Agree max3420e max3420eLedger max3420e-lawful
+reached-accepted = run-accepted max3420e-lawful
 
 -- a refused call changes neither record nor ledger
 pub refused-changes-nothing : (l : Ledger) (c : Chip) (k : Call) (r : Refusal) → answerOf max3420e c k ≡ refused r

@@ -1,6 +1,6 @@
 -- Worked examples beside the bench cases: what those do not reach. Each is a list of calls with its answers and the pin after each,
 -- from the power-on record; the answers were worked out by hand from document 01. All numbers in hex.
-use mathlib.Core.Bool.{true, false}
+use mathlib.Core.Bool.{Bool, true, false}
 use mathlib.Core.List.{List, [], _∷_, _++_, map}
 use Prim.Native.Nat.{ℕ}
 use lib.ListN.{replicate}
@@ -11,8 +11,10 @@ use Rattle.chip.specs.declared.Pin.the-variants.{Low, High, Open}
 use Rattle.chip.specs.declared.PinReply.the-variants.{Level}
 use Rattle.model.specs.declared.Event.{Event}
 use Rattle.model.specs.Reply.{Reply, transferred, done, silence, ack, nak, stall, sent}
-use Rattle.model.specs.Call.{Call, transfer, event, refused, answered}
-use Rattle.rules.specs.Bench.{Step, called, still, spi, signals, on, out, «in», r11, setup, plain, noChange, pinned}
+use Rattle.model.specs.Call.{Call, transfer, event, refused, answered, Entry}
+use Rattle.model.specs.Book.{bookOf}
+use Rattle.rules.specs.Watch.{unwritten, max3420eWatch}
+use Rattle.rules.specs.Bench.{Step, called, still, asked, spi, signals, on, out, «in», r11, setup, plain, noChange, pinned}
 use Rattle.rules.specs.Bench.{writes, reads}
 
 -- a transaction's event at an address and endpoint, undamaged
@@ -235,13 +237,51 @@ storedRegisters =
     writes 0x7a 0xff
     ∷ reads 0x78 0xfc ∷ reads 0x60 0x3f ∷ writes 0x7a 0x00 ∷ reads 0x78 0x00 ∷ [])
 
--- R11: each bit with a 1 and without
+-- R11: each bit with a 1 and without; several at once, as a careless read-modify-write does it
 abbrev pub clearedIrqs : List Step
 clearedIrqs =
     on
     ++ (setup (0x21 ∷ 0x09 ∷ 0 ∷ 0 ∷ 0 ∷ 0 ∷ 0x02 ∷ 0 ∷ []) ∷ out 0 true (0x01 ∷ []) ack ∷ out 1 false (0x02 ∷ []) ack ∷ r11 0x3f
-    ∷ noChange (writes 0x5a 0xd8) ∷ writes 0x5a 0x01 ∷ r11 0x3e ∷ writes 0x5a 0x02 ∷ r11 0x3c ∷ writes 0x5a 0x20 ∷ r11 0x1c
-    ∷ writes 0x5a 0xff ∷ r11 0x18 ∷ [])
+    ∷ noChange (writes 0x5a 0xc0) ∷ writes 0x5a 0x01 ∷ r11 0x3e ∷ writes 0x5a 0x02 ∷ r11 0x3c ∷ writes 0x5a 0x20 ∷ r11 0x1c
+    ∷ writes 0x5a 0x08 ∷ r11 0x14 ∷ writes 0x5a 0x10 ∷ r11 0x04 ∷ writes 0x5a 0xff ∷ r11 0x00
+    ∷ signals 6 ∷ setup (0x21 ∷ 0x09 ∷ 0 ∷ 0 ∷ 0 ∷ 0 ∷ 0x02 ∷ 0 ∷ []) ∷ r11 0x39 ∷ writes 0x5a 0x39 ∷ r11 0x00 ∷ [])
+
+-- ---- BAV bits cleared by hand (Ask 2)
+
+-- IN2BAVIRQ, with nothing armed: no packet moves, a packet that leaves room leaves the bit clear, the third has no room; the bit
+-- is 1 again at the acknowledged IN, and not without the ACK nor at a NAK; then cleared while one waits
+abbrev pub in2bavByHand : List Step
+in2bavByHand =
+    on
+    ++ (writes 0x5a 0x08 ∷ r11 0x11 ∷ «in» 2 true nak ∷ r11 0x11 ∷ writes 0x12 0x01 ∷ writes 0x3a 0x01 ∷ r11 0x11 ∷ writes 0x12 0x02
+    ∷ writes 0x3a 0x01 ∷ r11 0x11 ∷ noChange (writes 0x12 0x03) ∷ noChange (writes 0x3a 0x01) ∷ noChange (writes 0x5a 0x08)
+    ∷ «in» 2 false (sent false (0x01 ∷ [])) ∷ r11 0x11 ∷ «in» 2 true (sent false (0x01 ∷ [])) ∷ r11 0x19 ∷ writes 0x5a 0x08 ∷ r11 0x11
+    ∷ «in» 2 true (sent true (0x02 ∷ [])) ∷ r11 0x19 ∷ [])
+
+-- IN3BAVIRQ alike; an acknowledged IN brings back the bit of its own endpoint only
+abbrev pub in3bavByHand : List Step
+in3bavByHand =
+    on
+    ++ (writes 0x5a 0x18 ∷ r11 0x01 ∷ «in» 3 true nak ∷ r11 0x01 ∷ writes 0x1a 0x07 ∷ writes 0x42 0x01 ∷ r11 0x01
+    ∷ noChange (writes 0x1a 0x08) ∷ noChange (writes 0x42 0x01) ∷ «in» 3 false (sent false (0x07 ∷ [])) ∷ r11 0x01
+    ∷ «in» 3 true (sent false (0x07 ∷ [])) ∷ r11 0x11 ∷ [])
+
+-- every reset brings both back, a bus reset that is not seen does not
+abbrev pub bavAtReset : List Step
+bavAtReset =
+    on
+    ++ (writes 0x5a 0x18 ∷ r11 0x01 ∷ signals 6 ∷ r11 0x19 ∷ writes 0x5a 0x18 ∷ writes 0x7a 0x00 ∷ noChange (answers (plain 6) [] silence)
+    ∷ r11 0x01 ∷ writes 0x7a 0x20 ∷ r11 0x19 ∷ writes 0x5a 0x18 ∷ r11 0x01 ∷ signals 1 ∷ r11 0x19 ∷ [])
+
+-- bytes act one at a time: a burst from R7 arms endpoints 2 and 3, then its byte for R11 clears both bits; one over R11 to R15 clears IN2BAVIRQ
+-- and ends in a chip reset; reply byte 0 and the pin follow the bits
+abbrev pub bavInBurst : List Step
+bavInBurst =
+    on
+    ++ (spi (0x3a ∷ 0x01 ∷ 0x00 ∷ 0x00 ∷ 0x00 ∷ 0x18 ∷ []) (replicate 6 0) ∷ r11 0x01 ∷ «in» 2 true (sent false (0x00 ∷ [])) ∷ r11 0x09
+    ∷ «in» 3 true (sent false []) ∷ r11 0x19 ∷ spi (0x5a ∷ 0x08 ∷ 0x00 ∷ 0x00 ∷ 0x00 ∷ 0x28 ∷ []) (replicate 6 0) ∷ r11 0x19
+    ∷ writes 0x62 0x08 ∷ writes 0x8a 0x10 ∷ pinned (Level Low) (spi (0x82 ∷ 0x01 ∷ []) (0x19 ∷ 0 ∷ []))
+    ∷ pinned (Level High) (spi (0x5a ∷ 0x08 ∷ []) (0x19 ∷ 0 ∷ [])) ∷ spi (0x58 ∷ 0 ∷ []) (0x11 ∷ 0x11 ∷ []) ∷ [])
 
 -- a burst writes R9 to R20 and sticks there, and one reads R5 to R20, each register once
 abbrev pub bursts : List Step
@@ -288,4 +328,51 @@ abbrev pub examples : List (List Step)
 examples =
     readTransfer ∷ writeTransfer ∷ stages ∷ setAddress ∷ released ∷ toggles ∷ silent ∷ stalled ∷ single ∷ resetInBurst ∷ armedAfterReset ∷
     signalled ∷
-    gated ∷ interrupts ∷ storedRegisters ∷ clearedIrqs ∷ bursts ∷ fullBursts ∷ refusals ∷ []
+    gated ∷ interrupts ∷ storedRegisters ∷ clearedIrqs ∷ in2bavByHand ∷ in3bavByHand ∷ bavAtReset ∷ bavInBurst ∷ bursts ∷ fullBursts ∷
+    refusals ∷ []
+
+-- ---- the watch
+
+-- the calls of a list of steps, as a history
+abbrev pub entriesOf : List Step → List Entry
+entriesOf [] = []
+entriesOf (called k a p ∷ ss) = record { call = k; answer = a } ∷ entriesOf ss
+entriesOf (still k a p ∷ ss) = record { call = k; answer = a } ∷ entriesOf ss
+entriesOf (asked s r vs ∷ ss) = entriesOf ss
+
+-- steps, and what the watch says after them
+pub record Watched : Type 0 where
+  pub steps : List Step
+  pub written : Bool
+
+abbrev pub watched : Watched → Watched
+watched x = record { steps = x .steps; written = bookOf max3420eWatch unwritten (entriesOf (x .steps)) .written }
+
+abbrev pub watching : List Step → Bool → Watched
+watching ss t = record { steps = on ++ ss; written = t }
+
+-- it is a 1 in that bit, written to R11 by a call that is not refused, in a burst too; neither arming nor an acknowledged IN ends it
+abbrev pub watchedWrites : List Watched
+watchedWrites =
+    watching [] false ∷ watching (writes 0x5a 0x08 ∷ []) true ∷ watching (writes 0x5a 0xff ∷ []) true ∷ watching (writes 0x5a 0xf7 ∷ []) false
+    ∷ watching (writes 0x62 0x08 ∷ []) false ∷ watching (reads 0x58 0x19 ∷ []) false
+    ∷ watching (spi (0x58 ∷ 0x08 ∷ []) (0 ∷ 0x19 ∷ []) ∷ []) false
+    ∷ watching (refuses (transfer (0x5a ∷ 0x08 ∷ []) 1) ShortBuffer ∷ []) false
+    ∷ watching (spi (0x52 ∷ 0x00 ∷ 0x08 ∷ 0x00 ∷ []) (replicate 4 0) ∷ []) true
+    ∷ watching (writes 0x5a 0x08 ∷ writes 0x5a 0x00 ∷ writes 0x3a 0x01 ∷ «in» 2 true (sent false (0x00 ∷ [])) ∷ []) true ∷ []
+
+-- each of the three resets ends it, a bus reset only where it is seen, a chip reset only where CHIPRES goes 0 to 1
+abbrev pub watchedResets : List Watched
+watchedResets =
+    watching (writes 0x5a 0x08 ∷ signals 1 ∷ []) false ∷ watching (writes 0x5a 0x08 ∷ signals 6 ∷ []) false
+    ∷ watching (writes 0x5a 0x08 ∷ writes 0x7a 0x28 ∷ []) false
+    ∷ watching (writes 0x5a 0x08 ∷ signals 7 ∷ []) true
+    ∷ watching (writes 0x7a 0x00 ∷ writes 0x5a 0x08 ∷ answers (plain 6) [] silence ∷ []) true
+    ∷ watching (writes 0x7a 0x28 ∷ writes 0x5a 0x08 ∷ writes 0x7a 0x28 ∷ []) true
+    ∷ watching (writes 0x7a 0x28 ∷ writes 0x5a 0x08 ∷ writes 0x7a 0x08 ∷ []) true
+    ∷ watching (writes 0x7a 0x28 ∷ writes 0x7a 0x08 ∷ writes 0x5a 0x08 ∷ writes 0x7a 0x28 ∷ []) false
+    ∷ watching (signals 6 ∷ writes 0x5a 0x08 ∷ []) true
+    ∷ watching (spi (0x5a ∷ 0x08 ∷ 0x00 ∷ 0x00 ∷ 0x00 ∷ 0x28 ∷ []) (replicate 6 0) ∷ []) false ∷ []
+
+abbrev pub watches : List Watched
+watches = watchedWrites ++ watchedResets

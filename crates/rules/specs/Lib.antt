@@ -7,6 +7,7 @@ pub mod Out
 pub mod In
 pub mod Event
 pub mod Ledger
+pub mod Watch
 pub mod Demand
 pub mod Bench
 pub mod Examples

@@ -110,7 +110,7 @@ writeEp0bc c b = armEp0 c (bitAnd b countBits)
 abbrev pub ep2Armed : Endpoint2 → ℕ → Endpoint2
 ep2Armed e n = record { ring = armNext 2 (e .ring) n; count = n; writepos = 0; toggle = e .toggle }
 
--- IN2BAVIRQ clears only when two now wait
+-- IN2BAVIRQ clears only when two now wait; an arming that leaves room leaves it as it is (Ask 2)
 abbrev pub in2bavCleared : Chip → Chip
 in2bavCleared c = cond (full 2 (c .ep2 .ring)) (lowerEpirq in2bavirq c) c
 
@@ -170,8 +170,8 @@ release c = out1davKept (setEp1 (ep1Released (c .ep1)) c)
 abbrev pub releaseIf : Bool → Chip → Chip
 releaseIf t c = cond t (release c) c
 
--- R11, EPIRQ: a 1 clears SUDAVIRQ, OUT0DAVIRQ, IN0BAVIRQ (000 pages 66, 51, 40); in OUT1DAVIRQ it releases (53); in IN2BAVIRQ and
--- IN3BAVIRQ it does nothing (42, 44)
+-- R11, EPIRQ: a 1 clears SUDAVIRQ, OUT0DAVIRQ, IN0BAVIRQ (000 pages 66, 51, 40), IN2BAVIRQ and IN3BAVIRQ (002, Ask 2), and no packet
+-- moves; in OUT1DAVIRQ it releases (000 page 53)
 abbrev pub writeEpirq : WriteRule
 writeEpirq c b = releaseIf (has b out1davirq) (lowerEpirq (bitAnd b clearedEpirqs) c)
 

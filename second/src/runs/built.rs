@@ -57,13 +57,14 @@ fn endpoint_1(rng: &mut Rng, address: u8, calls: &mut Vec<Call>) {
     }
 }
 
-/// Packets armed and taken; 0 to 2 wait in the end.
+/// Packets armed and taken, IN2BAVIRQ cleared by hand; 0 to 2 wait in the end.
 fn endpoint_2(rng: &mut Rng, address: u8, calls: &mut Vec<Call>) {
     for _ in 0..rng.below(7) {
         let n = rng.below(10);
-        match rng.below(4) {
+        match rng.below(5) {
             0 => calls.push(take(address, 2, !rng.one_in(3))),
             1 => calls.push(write(2, &rng.bytes(n))),
+            2 => calls.push(write(11, &[rng.pick(&[0x08, 0x08, 0x18, 0x39])])),
             _ => calls.extend([write(2, &rng.bytes(n)), write(7, &[arm_count(rng)])]),
         }
     }
@@ -72,8 +73,9 @@ fn endpoint_2(rng: &mut Rng, address: u8, calls: &mut Vec<Call>) {
 fn endpoint_3(rng: &mut Rng, address: u8, calls: &mut Vec<Call>) {
     for _ in 0..rng.below(4) {
         let n = rng.below(10);
-        match rng.below(3) {
+        match rng.below(4) {
             0 => calls.push(take(address, 3, !rng.one_in(3))),
+            1 => calls.push(write(11, &[rng.pick(&[0x10, 0x10, 0x18, 0x39])])),
             _ => calls.extend([write(3, &rng.bytes(n)), write(8, &[arm_count(rng)])]),
         }
     }

@@ -30,7 +30,8 @@ pub fn sound_record(rng: &mut Rng) -> Vec<Call> {
     calls
 }
 
-/// Counts, positions, flags and registers within the limits; BAV and DAV bits as the waiting packets want them.
+/// Counts, positions, flags and registers within the limits; OUT1DAVIRQ as the waiting packets want it, a BAV bit 1 only where there is
+/// room.
 fn sound_fields(rng: &mut Rng) -> Vec<Call> {
     let (ep1, ep2, ep3) = (rng.below(3) as u8, rng.below(3) as u8, rng.below(2) as u8);
     let mut calls = Vec::new();
@@ -42,7 +43,10 @@ fn sound_fields(rng: &mut Rng) -> Vec<Call> {
             "r4_read" => rng.below(9) as u8,
             "r9" => rng.byte() & rng.byte() & 0x7F,
             "r10" => rng.byte() & rng.byte() & 0xE0,
-            "r11" => rng.byte() & 0x23 | u8::from(ep3 == 0) << 4 | u8::from(ep2 < 2) << 3 | u8::from(ep1 > 0) << 2,
+            "r11" => {
+                let room = 0x23 | u8::from(ep3 == 0) << 4 | u8::from(ep2 < 2) << 3;
+                rng.byte() & room | u8::from(ep1 > 0) << 2
+            }
             "r12" => rng.byte() & 0x3F,
             "r13" | "r14" | "r17" | "r20" => rng.byte(),
             "r15" => rng.byte() & 0xFC,

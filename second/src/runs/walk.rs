@@ -73,7 +73,7 @@ pub fn useful_transfer(rng: &mut Rng) -> Call {
         4..=8 => write(rng.pick(&[5, 7, 7, 8]), &[arm_count(rng)]),
         9 => write(9, &[rng.byte() & rng.byte() & rng.byte()]),
         10 => write(10, &[rng.byte() & rng.byte() & 0x1C | rng.byte() & rng.byte() & rng.byte()]),
-        11 | 12 => write(11, &[rng.pick(&[0x04, 0x02, 0x01, 0x20, 0x06, 0x3F, 0x18, 0xFF])]),
+        11 | 12 => write(11, &[rng.pick(&[0x04, 0x02, 0x01, 0x20, 0x06, 0x3F, 0x18, 0xFF, 0x08, 0x10])]),
         13 => write(13, &[rng.byte()]),
         14 => write(rng.pick(&[12, 14, 16]), &[rng.byte()]),
         15 => write(17, &[rng.byte()]),
