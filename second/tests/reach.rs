@@ -26,6 +26,7 @@ fn play(list: &[Call], counts: &mut Counts) {
                 let answer = transfer(chip, bytes, &mut reply);
                 counts.add(format!("transfer refusal {}", answer.refusal));
                 note_write(&chip, bytes, counts);
+                note_bav(&chip, bytes, counts);
                 chip = answer.chip;
             }
             Call::Event { event, payload, .. } => {
@@ -66,9 +67,35 @@ fn note_write(chip: &Chip, bytes: &[u8], counts: &mut Counts) {
     }
 }
 
+/// What soundness alone allows: a BAV bit that is 0 though there is room.
+fn cleared_by_hand(chip: &Chip) -> bool {
+    chip.ep2.waiting < 2 && !chip.has(EPIRQ, IN2BAVIRQ) || chip.ep3_waiting == 0 && !chip.has(EPIRQ, IN3BAVIRQ)
+}
+
+/// 1s written to the BAV bits of endpoints 2 and 3, armings and chip resets, by what the bits say before.
+fn note_bav(chip: &Chip, bytes: &[u8], counts: &mut Counts) {
+    let &[command, byte, ..] = bytes else { return };
+    let (bit2, bit3) = (chip.has(EPIRQ, IN2BAVIRQ), chip.has(EPIRQ, IN3BAVIRQ));
+    let (waiting2, waiting3) = (chip.ep2.waiting, chip.ep3_waiting);
+    if command & 2 == 0 {
+        return;
+    }
+    match command >> 3 {
+        7 if byte <= 64 => counts.add(format!("R7 waiting {waiting2} IN2BAVIRQ {bit2}")),
+        8 if byte <= 64 => counts.add(format!("R8 waiting {waiting3} IN3BAVIRQ {bit3}")),
+        11 if byte & IN2BAVIRQ != 0 => counts.add(format!("1 to IN2BAVIRQ waiting {waiting2} bit {bit2}")),
+        15 if byte & CHIPRES != 0 => counts.add(format!("CHIPRES set, cleared by hand {}", cleared_by_hand(chip))),
+        _ => {}
+    }
+    if command >> 3 == 11 && byte & IN3BAVIRQ != 0 {
+        counts.add(format!("1 to IN3BAVIRQ waiting {waiting3} bit {bit3}"));
+    }
+}
+
 fn note_event(chip: &Chip, event: &Event, payload: &[u8], refusal: u8, pid: u8, counts: &mut Counts) {
     let code = event.code.min(13);
     counts.add(format!("event {code} refusal {refusal}"));
+    counts.add(format!("event {code} cleared by hand {}", cleared_by_hand(chip)));
     if refusal != 0 || code < RESET_START {
         return;
     }
@@ -171,6 +198,14 @@ fn wanted() -> Vec<String> {
     all.extend((0..=12).map(|code| format!("event {code} refusal {}", if code == 0 { 5 } else { 0 })));
     all.extend(["event 12 refusal 4", "event 13 refusal 5", "event 10 refusal 8", "event 11 refusal 6"].map(String::from));
     all.extend((10..=12).map(|code| format!("event {code} refusal 7")));
+    for (waiting, bit) in [(0, false), (0, true), (1, false), (1, true), (2, false)] {
+        all.extend([format!("1 to IN2BAVIRQ waiting {waiting} bit {bit}"), format!("R7 waiting {waiting} IN2BAVIRQ {bit}")]);
+    }
+    for (waiting, bit) in [(0, false), (0, true), (1, false)] {
+        all.extend([format!("1 to IN3BAVIRQ waiting {waiting} bit {bit}"), format!("R8 waiting {waiting} IN3BAVIRQ {bit}")]);
+    }
+    all.push("CHIPRES set, cleared by hand true".to_string());
+    all.extend((1..=12).map(|code| format!("event {code} cleared by hand true")));
     all.extend((0..=3).map(|kind| format!("step refusal 0 kind {kind}")));
     all.push("step refusal 4 kind 0".to_string());
     all
