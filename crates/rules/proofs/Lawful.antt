@@ -43,6 +43,7 @@ use Rattle.rules.proofs.Events.{keeps-reset-start, keeps-raises, keeps-
 use Rattle.rules.proofs.Outs.{keeps-out}
 use Rattle.rules.proofs.Ins.{keeps-in}
 
+-- what holds of the books and a state after every call
 abbrev pub Invariant : Type 0 → Type 1
 Invariant R = Books → R → Type 0
 

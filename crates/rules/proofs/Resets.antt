@@ -44,7 +44,7 @@ in2-after ChipReset x = has-masked 0 availableIrqs x in2bavirq
 in2-after BusReset x = has-masked 0 availableIrqs x in2bavirq
 
 -- the books after a reset
-abbrev pub booksAfter : Reset → Books → Books
+abbrev booksAfter : Reset → Books → Books
 booksAfter k l = (ledgerAfter k (l .0), watchAfter k (l .1))
 
 module _ (k : Reset) (l : Books) (c : Chip) (i : Agree l c) where
