@@ -230,6 +230,10 @@ fn the_runs_reach_every_situation_from_power_on() {
     let rare: Vec<_> = counts.0.iter().filter(|(_, n)| **n < 10).collect();
     println!("{calls} calls, {} situations, rare: {rare:?}", counts.0.len());
     assert!(missing.is_empty(), "not reached: {missing:#?}");
+    // 1s go to both BAV bits often, whatever waits and whatever they are
+    let by_hand: Vec<_> = counts.0.iter().filter(|(name, _)| name.starts_with("1 to IN")).collect();
+    println!("{by_hand:?}");
+    assert!(by_hand.iter().all(|(_, n)| **n >= 200));
 }
 
 #[test]
