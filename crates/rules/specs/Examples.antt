@@ -263,7 +263,8 @@ abbrev pub in3bavByHand : List Step
 in3bavByHand =
     on
     ++ (writes 0x5a 0x18 ∷ r11 0x01 ∷ «in» 3 true nak ∷ r11 0x01 ∷ writes 0x1a 0x07 ∷ writes 0x42 0x01 ∷ r11 0x01
-    ∷ noChange (writes 0x1a 0x08) ∷ noChange (writes 0x42 0x01) ∷ «in» 3 false (sent false (0x07 ∷ [])) ∷ r11 0x01
+    ∷ noChange (writes 0x1a 0x08) ∷ noChange (writes 0x42 0x01) ∷ noChange (writes 0x5a 0x10) ∷ «in» 3 false (sent false (0x07 ∷ []))
+    ∷ r11 0x01
     ∷ «in» 3 true (sent false (0x07 ∷ [])) ∷ r11 0x11 ∷ [])
 
 -- every reset brings both back, a bus reset that is not seen does not
