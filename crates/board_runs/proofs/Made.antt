@@ -4,11 +4,8 @@ use mathlib.Core.List.{List, [], _∷_}
 use Rattle.chip.specs.declared.Chip.{Chip}
 use Rattle.chip.specs.Record.{powerOnChip}
 use Rattle.model.specs.Call.{Call, transfer, event, Entry, answerOf, callTo, runTo, history}
-use Rattle.model.specs.Book.{bookOf}
 use Rattle.rules.specs.Event.{max3420e}
-use Rattle.rules.specs.Ledger.{blank, max3420eLedger}
-use Rattle.rules.specs.Watch.{unwritten, max3420eWatch}
-use Rattle.rules.specs.Demand.{Demand3}
+use Rattle.rules.specs.Demand.{Demand3Of}
 use Rattle.rules.proofs.Theorem.{demand3}
 use Rattle.board_runs.specs.Made.{madeTo, madeRunTo, madeHistory}
 
@@ -29,11 +26,7 @@ history-is c (k ∷ ks) =
     ap (λ (es : List Entry). record { call = k; answer = answerOf max3420e c k } ∷ es)
     (ap (λ (d : Chip). history max3420e d ks) (made-is c k) ∙ history-is (madeTo c k) ks)
 
-pub made-demand3 : (ks : List Call)
-    → Demand3 (bookOf max3420eLedger blank (madeHistory powerOnChip ks)) (bookOf max3420eWatch unwritten (madeHistory powerOnChip ks))
-    (madeRunTo powerOnChip ks)
+pub made-demand3 : (ks : List Call) → Demand3Of (madeHistory powerOnChip ks) (madeRunTo powerOnChip ks)
 made-demand3 ks =
-    subst (λ (es : List Entry). Demand3 (bookOf max3420eLedger blank es) (bookOf max3420eWatch unwritten es) (madeRunTo powerOnChip ks))
-    (history-is powerOnChip ks)
-    (subst (Demand3 (bookOf max3420eLedger blank (history max3420e powerOnChip ks))
-    (bookOf max3420eWatch unwritten (history max3420e powerOnChip ks))) (run-is powerOnChip ks) (demand3 ks))
+    subst (λ (es : List Entry). Demand3Of es (madeRunTo powerOnChip ks)) (history-is powerOnChip ks)
+    (subst (Demand3Of (history max3420e powerOnChip ks)) (run-is powerOnChip ks) (demand3 ks))

@@ -18,13 +18,10 @@ use Rattle.chip.specs.Sound.{soundChip}
 use Rattle.request.specs.declared.Firmware.{Firmware}
 use Rattle.request.specs.Record.{soundFirmware}
 use Rattle.firmware.proofs.Laws.{answer-sound}
-use Rattle.model.specs.Call.{Call, transfer, event, Answer, refused, Entry, answerOf, runTo, history}
-use Rattle.model.specs.Book.{bookOf}
+use Rattle.model.specs.Call.{Call, transfer, event, Answer, refused, answerOf, runTo, history}
 use Rattle.model.proofs.Runs.{run-append}
 use Rattle.rules.specs.Event.{max3420e}
-use Rattle.rules.specs.Ledger.{blank, max3420eLedger}
-use Rattle.rules.specs.Watch.{unwritten, max3420eWatch}
-use Rattle.rules.specs.Demand.{Demand3}
+use Rattle.rules.specs.Demand.{Demand3Of}
 use Rattle.rules.proofs.Theorem.{demand3, reached-sound, reached-accepted}
 use Rattle.bus.specs.EventCall.{eventReplyOf}
 use Rattle.board_record.specs.declared.Board.{Board}
@@ -42,15 +39,11 @@ board-run b [] = refl
 board-run b (k ∷ ks) =
     board-run (boardTo b k) ks ∙ sym (run-append max3420e (b .chip) (chipCalls b k) (allChipCalls (boardTo b k) ks))
 
--- demand 3: ledger and watch over the history of the chip calls, and the chip's record after the board calls
-abbrev boardHistory : List BoardCall → List Entry
-boardHistory ks = history max3420e powerOnChip (allChipCalls powerOnBoard ks)
-
+-- demand 3: of the history of the chip calls, and of the chip's record after the board calls
 pub board-demand3 : (ks : List BoardCall)
-    → Demand3 (bookOf max3420eLedger blank (boardHistory ks)) (bookOf max3420eWatch unwritten (boardHistory ks)) (boardRunTo powerOnBoard ks .chip)
+    → Demand3Of (history max3420e powerOnChip (allChipCalls powerOnBoard ks)) (boardRunTo powerOnBoard ks .chip)
 board-demand3 ks =
-    subst (Demand3 (bookOf max3420eLedger blank (boardHistory ks)) (bookOf max3420eWatch unwritten (boardHistory ks)))
-    (sym (board-run powerOnBoard ks))
+    subst (Demand3Of (history max3420e powerOnChip (allChipCalls powerOnBoard ks))) (sym (board-run powerOnBoard ks))
     (demand3 (allChipCalls powerOnBoard ks))
 
 -- ---- both records are sound

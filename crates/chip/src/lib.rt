@@ -360,7 +360,7 @@ impl Chip {
         }
     }
 
-    // What the IRQ bits tell of waiting packets is so.
+    // A BAV bit is 1 only where there is room, OUT1DAVIRQ exactly while a packet waits.
     fn sound_irqs(self) -> bool
         ensures { λ r. ⌜ r ≡ soundIrqs self ⌝ }
     {

@@ -27,8 +27,8 @@ use Rattle.model.proofs.Books.{both, book-both}
 use Rattle.model.proofs.Keeps.{run-keeps, run-always, refused-keeps}
 use Rattle.rules.specs.Event.{max3420e}
 use Rattle.rules.specs.Ledger.{Ledger, blank, max3420eLedger}
-use Rattle.rules.specs.Watch.{Watch, unwritten, max3420eWatch}
-use Rattle.rules.specs.Demand.{Demand3}
+use Rattle.rules.specs.Watch.{Watch, unwritten}
+use Rattle.rules.specs.Demand.{Demand3, Demand3Of}
 use Rattle.rules.proofs.Agree.{Books, Agree}
 use Rattle.rules.proofs.Lawful.{Invariant, Lawful, max3420e-lawful}
 
@@ -83,9 +83,7 @@ module _ {R : Type 0} {core : R → Chip} {I : Invariant R} {m : Model R} {p : B
 -- ---- the MAX3420E
 
 -- demand 3
-pub demand3 : (ks : List Call)
-    → Demand3 (bookOf max3420eLedger blank (history max3420e powerOnChip ks)) (bookOf max3420eWatch unwritten (history max3420e powerOnChip ks))
-    (runTo max3420e powerOnChip ks)
+pub demand3 : (ks : List Call) → Demand3Of (history max3420e powerOnChip ks) (runTo max3420e powerOnChip ks)
 demand3 = run-demand max3420e-lawful
 
 -- everything reached from power-on is sound

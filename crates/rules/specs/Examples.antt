@@ -264,8 +264,7 @@ in3bavByHand =
     on
     ++ (writes 0x5a 0x18 ∷ r11 0x01 ∷ «in» 3 true nak ∷ r11 0x01 ∷ writes 0x1a 0x07 ∷ writes 0x42 0x01 ∷ r11 0x01
     ∷ noChange (writes 0x1a 0x08) ∷ noChange (writes 0x42 0x01) ∷ noChange (writes 0x5a 0x10) ∷ «in» 3 false (sent false (0x07 ∷ []))
-    ∷ r11 0x01
-    ∷ «in» 3 true (sent false (0x07 ∷ [])) ∷ r11 0x11 ∷ [])
+    ∷ r11 0x01 ∷ «in» 3 true (sent false (0x07 ∷ [])) ∷ r11 0x11 ∷ [])
 
 -- every reset brings both back, a bus reset that is not seen does not
 abbrev pub bavAtReset : List Step
@@ -274,8 +273,8 @@ bavAtReset =
     ++ (writes 0x5a 0x18 ∷ r11 0x01 ∷ signals 6 ∷ r11 0x19 ∷ writes 0x5a 0x18 ∷ writes 0x7a 0x00 ∷ noChange (answers (plain 6) [] silence)
     ∷ r11 0x01 ∷ writes 0x7a 0x20 ∷ r11 0x19 ∷ writes 0x5a 0x18 ∷ r11 0x01 ∷ signals 1 ∷ r11 0x19 ∷ [])
 
--- bytes act one at a time: a burst from R7 arms endpoints 2 and 3, then its byte for R11 clears both bits; one over R11 to R15 clears IN2BAVIRQ
--- and ends in a chip reset; reply byte 0 and the pin follow the bits
+-- bytes act one at a time: a burst from R7 arms endpoints 2 and 3, which leaves IN2BAVIRQ 1, and its byte for R11 then clears it; one over
+-- R11 to R15 clears it and ends in a chip reset; reply byte 0 and the pin follow the bits
 abbrev pub bavInBurst : List Step
 bavInBurst =
     on
