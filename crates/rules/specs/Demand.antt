@@ -30,7 +30,7 @@ pub record Demand3 (l : Ledger) (w : Watch) (c : Chip) : Type 0 where
   pub in2bavirq : bit (controlRegister c 11) 3 ≡ 1 → length (waiting2 c) < 2
   pub out1davirq : bit (controlRegister c 11) 2 ≡ 1 ↔ 0 < length (waiting1 c)
   -- and exactly, where no 1 was written to IN2BAVIRQ since the start or the last reset that reached the endpoints (Ask 2)
-  pub in2exactly : w .written ≡ false → bit (controlRegister c 11) 3 ≡ 1 ↔ length (waiting2 c) < 2
+  pub in2exactly : w .written ≡ false → (bit (controlRegister c 11) 3 ≡ 1 ↔ length (waiting2 c) < 2)
 
 -- the history is the MAX3420E's, from power-on
 abbrev pub Demand3Of : List Entry → Chip → Type 0
