@@ -6,6 +6,7 @@ use model::Event;
 ghost use mathlib.Core.Path.{_≡_};
 ghost use Rattle.board_record.specs.Record.{powerOnBoard, soundBoard, isDone, firmwareFor};
 
+#[repr(C)]
 pub struct Board {
     pub chip: Chip,
     pub firmware: Firmware,

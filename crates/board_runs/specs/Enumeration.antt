@@ -39,7 +39,7 @@ spi bytes = calls (transfer bytes 4096) (answered (transferred (replicate (lengt
 
 abbrev pub signals : ℕ → Reply → Play
 signals code a =
-    calls (event (record { code = code; pins = 0; address = 0; endpoint = 0; damaged = false; data1 = false; acknowledged = false }) [] 0)
+    calls (event (record { code = code; pins = 0; address = 0; endpoint = record { 0 = 0 }; damaged = false; data1 = false; acknowledged = false }) [] 0)
     (answered a)
 
 abbrev pub setupAt : ℕ → List ℕ → Play
@@ -48,7 +48,7 @@ setupAt address vs =
       code = 10;
       pins = 0;
       address = address;
-      endpoint = 0;
+      endpoint = record { 0 = 0 };
       damaged = false;
       data1 = false;
       acknowledged =
@@ -62,7 +62,7 @@ inAt address endpoint a =
       code = 12;
       pins = 0;
       address = address;
-      endpoint = endpoint;
+      endpoint = record { 0 = endpoint };
       damaged = false;
       data1 = false;
       acknowledged =
@@ -76,7 +76,7 @@ statusOutAt address a =
       code = 11;
       pins = 0;
       address = address;
-      endpoint = 0;
+      endpoint = record { 0 = 0 };
       damaged = false;
       data1 = true;
       acknowledged =

@@ -30,7 +30,7 @@ quiet-seen : (f : Chip → Chip) → QuietRule (whenSeen f)
 quiet-seen f c e vs = cond-elim Quiet (seen (connectionOf c)) (λ _. refl) (λ _. refl)
 
 quiet-setup : QuietRule setupEvent
-quiet-setup c e vs = cond-elim Quiet (heard c (e .damaged) (e .address) && eqb (e .endpoint) 0) (λ _. refl) (λ _. refl)
+quiet-setup c e vs = cond-elim Quiet (heard c (e .damaged) (e .address) && eqb (e .endpoint .0) 0) (λ _. refl) (λ _. refl)
 
 quiet-verdict : (c taken : Chip) (v : OutVerdict) → Quiet (outOutcome c taken v)
 quiet-verdict c taken Silent = refl
@@ -44,7 +44,7 @@ quiet-out : QuietRule outEvent
 quiet-out c e vs =
     cond-elim Quiet (heard c (e .damaged) (e .address))
     (λ _. first-each Quiet
-    ((eqb (e .endpoint) 0, out0 c (e .data1) vs) ∷ (eqb (e .endpoint) 1, out1 c (e .data1) vs) ∷ []) (outcome c silence)
+    ((eqb (e .endpoint .0) 0, out0 c (e .data1) vs) ∷ (eqb (e .endpoint .0) 1, out1 c (e .data1) vs) ∷ []) (outcome c silence)
     ((λ _. quiet-verdict c (out0Taken c vs) (out0Verdict c (e .data1) (length vs)))
     ⨾ (λ _. quiet-verdict c (out1Taken c vs) (out1Verdict c (e .data1))) ⨾ none) refl)
     (λ _. refl)

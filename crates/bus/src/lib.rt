@@ -113,7 +113,7 @@ fn take_setup(chip: Chip, event: Event, payload: &[u8]) -> EventAnswer
     requires { ⌜ length (now payload) ≡ 8 ⌝ }
     ensures { λ r. ⌜ r ≡ outcomeAnswer (setupEvent chip event (now (payload .entry))) ⌝ }
 {
-    if verdicts::heard(chip, event.damaged, event.address) & (event.endpoint == 0) {
+    if verdicts::heard(chip, event.damaged, event.address) & (event.endpoint.0 == 0) {
         return out_transactions::setup(chip, payload);
     }
     answer_with(chip, EventReply::Silence)
@@ -126,8 +126,8 @@ fn take_out(chip: Chip, event: Event, payload: &[u8]) -> EventAnswer
     if !verdicts::heard(chip, event.damaged, event.address) {
         return answer_with(chip, EventReply::Silence);
     }
-    let endpoint = event.endpoint;
-    match endpoint {
+    let number = event.endpoint.0;
+    match number {
         0 => out_transactions::out0(chip, event.data1, payload),
         1 => out_transactions::out1(chip, event.data1, payload),
         _ => answer_with(chip, EventReply::Silence),
@@ -142,8 +142,9 @@ fn take_in(chip: Chip, event: Event, reply: &mut [u8]) -> EventAnswer
     if !verdicts::heard(chip, false, event.address) {
         return answer_with(chip, EventReply::Silence);
     }
-    let endpoint = event.endpoint;
-    if (endpoint == 0) | (endpoint == 2) | (endpoint == 3) {
+    let number = event.endpoint.0;
+    if (number == 0) | (number == 2) | (number == 3) {
+        let endpoint = event.endpoint;
         return in_transactions::answer(chip, endpoint, event.acknowledged, reply);
     }
     answer_with(chip, EventReply::Silence)
@@ -157,7 +158,7 @@ fn check_event(sound: bool, event: Event, count: usize, room: usize) -> u8
     ensures { λ r. ⌜ r ≡ checkedNumber (check (eventGrounds sound event count room)) ⌝ }
 {
     let code = event.code;
-    let far = (127 < event.address) | (15 < event.endpoint);
+    let far = (127 < event.address) | (15 < event.endpoint.0);
     if !sound {
         return 1;
     }

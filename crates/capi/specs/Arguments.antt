@@ -14,7 +14,7 @@ eventOf code pins address endpoint damaged data1 acknowledged =
       code = code;
       pins = pins;
       address = address;
-      endpoint = endpoint;
+      endpoint = record { 0 = endpoint };
       damaged = isYes damaged;
       data1 = isYes data1;
       acknowledged = isYes acknowledged;

@@ -9,6 +9,7 @@ use flat::flat_event;
 use flat::flat_request;
 use flat::flat_step;
 use flat::flat_transfer;
+use model::EndpointNumber;
 use model::Event;
 use request::Firmware;
 ghost use mathlib.Core.Path.{_≡_};
@@ -61,7 +62,7 @@ pub extern "C" fn max3420e_event(
         code,
         pins,
         address,
-        endpoint,
+        endpoint: EndpointNumber(endpoint),
         damaged: damaged != 0,
         data1: data1 != 0,
         acknowledged: acknowledged != 0,

@@ -5,6 +5,7 @@
 use board::Board;
 use board::StepReply;
 use event_answer::EventReply;
+use model::EndpointNumber;
 use model::Event;
 use print::put;
 use print::put_byte;
@@ -79,11 +80,17 @@ fn put_heading(name: &[u8], address: u8) {
 
 // ---- the calls
 
+const EP0: EndpointNumber = EndpointNumber(0);
+
+const EP2: EndpointNumber = EndpointNumber(2);
+
+const EP3: EndpointNumber = EndpointNumber(3);
+
 const QUIET: Event = Event {
     code: 0,
     pins: 0,
     address: 0,
-    endpoint: 0,
+    endpoint: EndpointNumber(0),
     damaged: false,
     data1: false,
     acknowledged: false,
@@ -122,11 +129,11 @@ fn setup(board: Board, address: u8, request: &[u8]) -> Board {
     )
 }
 
-fn send_in(board: Board, address: u8, endpoint: u8) -> Board {
+fn send_in(board: Board, address: u8, endpoint: EndpointNumber) -> Board {
     put(b"  IN");
-    if endpoint != 0 {
+    if endpoint.0 != 0 {
         put(b" endpoint");
-        put_byte(endpoint);
+        put_byte(endpoint.0);
     }
     let mut buffer = [0xEEu8; 64];
     call(
@@ -182,7 +189,7 @@ fn ask(board: Board, name: &[u8], address: u8, request: &[u8]) -> Board {
     put_heading(name, address);
     let mut b = setup(board, address, request);
     b = step(b);
-    send_in(b, address, 0)
+    send_in(b, address, EP0)
 }
 
 // The same with data to the host: the status stage is an empty OUT DATA1.
@@ -234,12 +241,12 @@ fn report(board: Board) -> Board {
     put_heading(b"three bytes at endpoint 3, armed by hand", 7);
     let mut b = transfer(board, b"\x1A\x01\x02\x03");
     b = transfer(b, b"\x42\x03");
-    send_in(b, 7, 3)
+    send_in(b, 7, EP3)
 }
 
 fn halt(board: Board) {
     let mut b = ask(board, b"halt of endpoint 3 set", 7, &SET_HALT);
-    b = send_in(b, 7, 3);
+    b = send_in(b, 7, EP3);
     b = read(b, b"GET_STATUS of endpoint 83", 7, &ENDPOINT_STATUS);
     b = ask(
         b,
@@ -247,7 +254,7 @@ fn halt(board: Board) {
         7,
         &VENDOR,
     );
-    b = send_in(b, 7, 3);
+    b = send_in(b, 7, EP3);
     b = ask(
         b,
         b"halt of endpoint 3 cleared, DATA0 again",
@@ -255,13 +262,13 @@ fn halt(board: Board) {
         &CLEAR_HALT,
     );
     b = transfer(b, b"\x42\x01");
-    send_in(b, 7, 3);
+    send_in(b, 7, EP3);
 }
 
 fn configure_again(board: Board) {
     put_heading(b"an empty packet at endpoint 2", 7);
     let mut b = transfer(board, b"\x3A\x00");
-    b = send_in(b, 7, 2);
+    b = send_in(b, 7, EP2);
     b = ask(
         b,
         b"SET_CONFIGURATION 1 again, DATA0 at endpoints 2 and 3",
@@ -269,9 +276,9 @@ fn configure_again(board: Board) {
         &SET_CONFIGURATION_1,
     );
     b = transfer(b, b"\x3A\x00");
-    b = send_in(b, 7, 2);
+    b = send_in(b, 7, EP2);
     b = transfer(b, b"\x42\x00");
-    send_in(b, 7, 3);
+    send_in(b, 7, EP3);
 }
 
 fn reset_bus(board: Board) {

@@ -3,6 +3,7 @@
 // record by hand. Writes each event with its reply.
 use bus::EventReply;
 use chip::Chip;
+use model::EndpointNumber;
 use model::Event;
 use print::put;
 use print::put_byte;
@@ -34,11 +35,17 @@ fn put_reply(reply: EventReply, buffer: &[u8]) {
 
 // ---- the host
 
+const EP0: EndpointNumber = EndpointNumber(0);
+
+const EP1: EndpointNumber = EndpointNumber(1);
+
+const EP2: EndpointNumber = EndpointNumber(2);
+
 const QUIET: Event = Event {
     code: 0,
     pins: 0,
     address: 0,
-    endpoint: 0,
+    endpoint: EndpointNumber(0),
     damaged: false,
     data1: false,
     acknowledged: true,
@@ -72,9 +79,9 @@ fn setup(chip: Chip, address: u8, payload: &[u8]) -> Chip {
     )
 }
 
-fn put_out(endpoint: u8, data1: bool, payload: &[u8]) {
+fn put_out(endpoint: EndpointNumber, data1: bool, payload: &[u8]) {
     put(b"  OUT");
-    put_byte(endpoint);
+    put_byte(endpoint.0);
     if data1 {
         put(b" DATA1");
     } else {
@@ -83,7 +90,7 @@ fn put_out(endpoint: u8, data1: bool, payload: &[u8]) {
     put_bytes(payload);
 }
 
-fn send_out(chip: Chip, endpoint: u8, data1: bool, payload: &[u8]) -> Chip {
+fn send_out(chip: Chip, endpoint: EndpointNumber, data1: bool, payload: &[u8]) -> Chip {
     put_out(endpoint, data1, payload);
     call(
         chip,
@@ -97,9 +104,9 @@ fn send_out(chip: Chip, endpoint: u8, data1: bool, payload: &[u8]) -> Chip {
     )
 }
 
-fn send_in(chip: Chip, address: u8, endpoint: u8, acknowledged: bool) -> Chip {
+fn send_in(chip: Chip, address: u8, endpoint: EndpointNumber, acknowledged: bool) -> Chip {
     put(b"  IN");
-    put_byte(endpoint);
+    put_byte(endpoint.0);
     if !acknowledged {
         put(b" (ACK lost)");
     }
@@ -198,55 +205,55 @@ fn start() -> Chip {
 fn read_descriptor(chip: Chip) -> Chip {
     put(b"control read\n");
     let mut c = setup(chip, 0, b"\x80\x06\x00\x01\x00\x00\x12\x00");
-    c = send_in(c, 0, 0, true);
+    c = send_in(c, 0, EP0, true);
     put(b"  -- 3 bytes are armed\n");
     c = arm_ep0(c, 0xA1, 3);
-    c = send_in(c, 0, 0, false);
-    c = send_in(c, 0, 0, true);
-    c = send_out(c, 0, true, b"");
+    c = send_in(c, 0, EP0, false);
+    c = send_in(c, 0, EP0, true);
+    c = send_out(c, EP0, true, b"");
     put(b"  -- ACKSTAT is set\n");
     c = acknowledge(c);
-    send_out(c, 0, true, b"")
+    send_out(c, EP0, true, b"")
 }
 
 fn write_report(chip: Chip) -> Chip {
     put(b"control write\n");
     let mut c = setup(chip, 0, b"\x21\x09\x00\x02\x00\x00\x04\x00");
-    c = send_out(c, 0, true, b"\x11\x22");
-    c = send_out(c, 0, false, b"\x33\x44");
+    c = send_out(c, EP0, true, b"\x11\x22");
+    c = send_out(c, EP0, false, b"\x33\x44");
     put(b"  -- the packet is read\n");
     c = clear_out0(c);
-    c = send_out(c, 0, true, b"\x11\x22");
-    c = send_out(c, 0, false, b"\x33\x44");
-    c = send_in(c, 0, 0, true);
+    c = send_out(c, EP0, true, b"\x11\x22");
+    c = send_out(c, EP0, false, b"\x33\x44");
+    c = send_in(c, 0, EP0, true);
     put(b"  -- ACKSTAT is set\n");
     c = acknowledge(c);
-    send_in(c, 0, 0, true)
+    send_in(c, 0, EP0, true)
 }
 
 fn set_address(chip: Chip) -> Chip {
     put(b"SET_ADDRESS 5, no data\n");
     let mut c = setup(chip, 0, b"\x00\x05\x05\x00\x00\x00\x00\x00");
     c = acknowledge(c);
-    c = send_in(c, 0, 0, false);
+    c = send_in(c, 0, EP0, false);
     put(b"  -- the ACK was lost: still address 0\n");
-    c = send_in(c, 5, 0, true);
-    c = send_in(c, 0, 0, true);
+    c = send_in(c, 5, EP0, true);
+    c = send_in(c, 0, EP0, true);
     put(b"  -- address 5: nothing at 0, and at 5 nothing is armed\n");
-    c = send_in(c, 0, 2, true);
-    send_in(c, 5, 2, true)
+    c = send_in(c, 0, EP2, true);
+    send_in(c, 5, EP2, true)
 }
 
 fn buffer_in(chip: Chip) -> Chip {
     put(b"double buffering, IN\n");
     let mut c = arm_ep2(chip, 0x01);
     c = arm_ep2(c, 0x02);
-    c = send_in(c, 5, 2, false);
-    c = send_in(c, 5, 2, true);
+    c = send_in(c, 5, EP2, false);
+    c = send_in(c, 5, EP2, true);
     c = arm_ep2(c, 0x03);
-    c = send_in(c, 5, 2, true);
-    c = send_in(c, 5, 2, true);
-    send_in(c, 5, 2, true)
+    c = send_in(c, 5, EP2, true);
+    c = send_in(c, 5, EP2, true);
+    send_in(c, 5, EP2, true)
 }
 
 fn reset_bus(chip: Chip) -> Chip {
@@ -256,20 +263,20 @@ fn reset_bus(chip: Chip) -> Chip {
     c = signal(c, b"  activity", 9);
     c = signal(c, b"  bus reset start", 6);
     c = signal(c, b"  bus reset end", 7);
-    c = send_in(c, 5, 2, true);
-    send_in(c, 0, 2, true)
+    c = send_in(c, 5, EP2, true);
+    send_in(c, 0, EP2, true)
 }
 
 fn buffer_out(chip: Chip) -> Chip {
     put(b"double buffering, OUT\n");
-    let mut c = send_out(chip, 1, false, b"\x0A");
-    c = send_out(c, 1, false, b"\x0A");
-    c = send_out(c, 1, true, b"\x0B");
-    c = send_out(c, 1, false, b"\x0C");
+    let mut c = send_out(chip, EP1, false, b"\x0A");
+    c = send_out(c, EP1, false, b"\x0A");
+    c = send_out(c, EP1, true, b"\x0B");
+    c = send_out(c, EP1, false, b"\x0C");
     put(b"  -- the older packet is released\n");
     c = release_ep1(c);
-    c = send_out(c, 1, false, b"\x0C");
-    send_out(c, 2, false, b"\x0D")
+    c = send_out(c, EP1, false, b"\x0C");
+    send_out(c, EP2, false, b"\x0D")
 }
 
 fn refusals(chip: Chip) {
@@ -283,7 +290,7 @@ fn refusals(chip: Chip) {
         chip,
         Event {
             code: 11,
-            endpoint: 1,
+            endpoint: EP1,
             ..QUIET
         },
         &[0u8; 65],

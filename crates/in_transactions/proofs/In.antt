@@ -12,32 +12,33 @@ use Rattle.ring.specs.declared.Ring.{Ring}
 use Rattle.ring.specs.Ring.{withoutOldest, releaseOldest}
 use Rattle.chip.specs.declared.Chip.{Chip}
 use Rattle.chip.specs.Set.{setFnaddr}
+use Rattle.model.specs.declared.EndpointNumber.{EndpointNumber}
 use Rattle.model.specs.Reply.{outcome, silence}
 use Rattle.rules.specs.In.{in0, in2, in3}
 use Rattle.in_transactions.specs.At.{inAt}
 
 -- an endpoint that has IN
-abbrev pub hasIn : ℕ → Bool
-hasIn n = (eqb n 0 || eqb n 2) || eqb n 3
+abbrev pub hasIn : EndpointNumber → Bool
+hasIn n = (eqb (n .0) 0 || eqb (n .0) 2) || eqb (n .0) 3
 
-pub in-at : (c : Chip) (n : ℕ) (acknowledged : Bool) → hasIn n ≡ true
+pub in-at : (c : Chip) (n : EndpointNumber) (acknowledged : Bool) → hasIn n ≡ true
     → inAt n c acknowledged ≡ firstOf
-    ((eqb n 0, in0 c acknowledged) ∷ (eqb n 2, in2 c acknowledged) ∷ (eqb n 3, in3 c acknowledged) ∷ []) (outcome c silence)
-in-at c n acknowledged has-in = elim (ℕ-discrete n 0) [
+    ((eqb (n .0) 0, in0 c acknowledged) ∷ (eqb (n .0) 2, in2 c acknowledged) ∷ (eqb (n .0) 3, in3 c acknowledged) ∷ []) (outcome c silence)
+in-at c n acknowledged has-in = elim (ℕ-discrete (n .0) 0) [
   | yes e ↦ rw e
-  | no zero ↦ elim (ℕ-discrete n 2) [
+  | no zero ↦ elim (ℕ-discrete (n .0) 2) [
     | yes e ↦ rw e
-    | no two ↦ elim (ℕ-discrete n 3) [
+    | no two ↦ elim (ℕ-discrete (n .0) 3) [
       | yes e ↦ rw e
-      | no three ↦ true-is-false (sym (rw (ne-eqb n 0 zero, ne-eqb n 2 two, ne-eqb n 3 three) at has-in))
+      | no three ↦ true-is-false (sym (rw (ne-eqb (n .0) 0 zero, ne-eqb (n .0) 2 two, ne-eqb (n .0) 3 three) at has-in))
     ]
   ]
 ]
 
-pub none-in : (n : ℕ) → hasIn n ≡ false → (eqb n 0 ≡ false) × (eqb n 2 ≡ false) × (eqb n 3 ≡ false)
+pub none-in : (n : EndpointNumber) → hasIn n ≡ false → (eqb (n .0) 0 ≡ false) × (eqb (n .0) 2 ≡ false) × (eqb (n .0) 3 ≡ false)
 none-in n none =
-    let other = or-false (eqb n 0 || eqb n 2) (eqb n 3) none in
-    let first = or-false (eqb n 0) (eqb n 2) (other .0) in
+    let other = or-false (eqb (n .0) 0 || eqb (n .0) 2) (eqb (n .0) 3) none in
+    let first = or-false (eqb (n .0) 0) (eqb (n .0) 2) (other .0) in
     (first .0, first .1, other .1)
 
 -- a release changes which buffer is the oldest and how many wait

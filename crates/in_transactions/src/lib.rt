@@ -6,6 +6,7 @@ use event_answer::EventAnswer;
 use event_answer::EventReply;
 use event_answer::answer_with;
 use event_answer::data_packet;
+use model::EndpointNumber;
 use ring::Ring;
 use rules::InVerdict;
 ghost use mathlib.Core.Path.{_≡_};
@@ -22,40 +23,44 @@ ghost use Rattle.in_transactions.specs.At.{verdictAt, inakAt, bavAt, tog
 
 // ---- what is the endpoint's own
 
-fn verdict_at(chip: Chip, endpoint: u8) -> InVerdict
+fn verdict_at(chip: Chip, endpoint: EndpointNumber) -> InVerdict
     ensures { λ r. ⌜ r ≡ verdictAt endpoint chip ⌝ }
 {
-    match endpoint {
+    let number = endpoint.0;
+    match number {
         0 => verdicts::in0_verdict(chip),
         2 => verdicts::in2_verdict(chip),
         _ => verdicts::in3_verdict(chip),
     }
 }
 
-fn inak_at(endpoint: u8) -> u8
+fn inak_at(endpoint: EndpointNumber) -> u8
     ensures { λ r. ⌜ r ≡ inakAt endpoint ⌝ }
 {
-    match endpoint {
+    let number = endpoint.0;
+    match number {
         0 => Chip::EP0INAK,
         2 => Chip::EP2INAK,
         _ => Chip::EP3INAK,
     }
 }
 
-fn bav_at(endpoint: u8) -> u8
+fn bav_at(endpoint: EndpointNumber) -> u8
     ensures { λ r. ⌜ r ≡ bavAt endpoint ⌝ }
 {
-    match endpoint {
+    let number = endpoint.0;
+    match number {
         0 => Chip::IN0BAVIRQ,
         2 => Chip::IN2BAVIRQ,
         _ => Chip::IN3BAVIRQ,
     }
 }
 
-fn toggle_at(chip: Chip, endpoint: u8) -> bool
+fn toggle_at(chip: Chip, endpoint: EndpointNumber) -> bool
     ensures { λ r. ⌜ r ≡ toggleAt endpoint chip ⌝ }
 {
-    match endpoint {
+    let number = endpoint.0;
+    match number {
         0 => chip.ep0.intoggle == 1,
         2 => chip.ep2.toggle == 1,
         _ => chip.ep3.toggle == 1,
@@ -83,13 +88,14 @@ fn copy_oldest(ring: Ring, reply: &mut [u8]) -> u8
 }
 
 // The packet goes to the front of a lent buffer; how many bytes that is.
-fn copy_at(chip: Chip, endpoint: u8, reply: &mut [u8]) -> u8
+fn copy_at(chip: Chip, endpoint: EndpointNumber, reply: &mut [u8]) -> u8
     requires { ⌜ (chip .ep0 .count ≤ 64) × (oldestCount 2 (chip .ep2 .ring) ≤ 64) × (chip .ep3 .count ≤ 64)
         × (64 ≤ length (now reply)) ⌝ }
     ensures { λ r. ⌜ (length (packetAt endpoint chip) ≡ r)
         × (now (reply .exit) ≡ packetAt endpoint chip ++ drop r (now (reply .entry))) ⌝ }
 {
-    match endpoint {
+    let number = endpoint.0;
+    match number {
         0 => {
             let buffer = chip.ep0.bytes;
             copy_front(buffer, chip.ep0.count, reply)
@@ -105,7 +111,12 @@ fn copy_at(chip: Chip, endpoint: u8, reply: &mut [u8]) -> u8
     }
 }
 
-fn reply_at(chip: Chip, endpoint: u8, verdict: InVerdict, reply: &mut [u8]) -> EventReply
+fn reply_at(
+    chip: Chip,
+    endpoint: EndpointNumber,
+    verdict: InVerdict,
+    reply: &mut [u8],
+) -> EventReply
     requires { ⌜ (chip .ep0 .count ≤ 64) × (oldestCount 2 (chip .ep2 .ring) ≤ 64) × (chip .ep3 .count ≤ 64)
         × (64 ≤ length (now reply)) ⌝ }
     ensures { λ r. ⌜ ((acknowledged : Bool) → (r ≡ eventReply (outcomeAt endpoint chip acknowledged verdict .gives))
@@ -126,10 +137,11 @@ fn reply_at(chip: Chip, endpoint: u8, verdict: InVerdict, reply: &mut [u8]) -> E
 // ---- the record after
 
 // The packet leaves; the record is changed in its place.
-fn gone_at(mut chip: Chip, endpoint: u8) -> Chip
+fn gone_at(mut chip: Chip, endpoint: EndpointNumber) -> Chip
     ensures { λ r. ⌜ r ≡ goneAt endpoint chip ⌝ }
 {
-    match endpoint {
+    let number = endpoint.0;
+    match number {
         0 => {
             let toggle = flipped(chip.ep0.intoggle);
             chip.ep0.armed = 0;
@@ -155,7 +167,7 @@ fn gone_at(mut chip: Chip, endpoint: u8) -> Chip
 }
 
 // It leaves where the ACK arrives.
-fn sent_at(mut chip: Chip, endpoint: u8, acknowledged: bool) -> Chip
+fn sent_at(mut chip: Chip, endpoint: EndpointNumber, acknowledged: bool) -> Chip
     ensures { λ r. ⌜ r ≡ cond acknowledged (goneAt endpoint chip) chip ⌝ }
 {
     if acknowledged {
@@ -176,7 +188,7 @@ fn fnaddr_after(chip: Chip, acknowledged: bool) -> u8
     chip.registers.fnaddr
 }
 
-fn chip_at(mut chip: Chip, endpoint: u8, acknowledged: bool, verdict: InVerdict) -> Chip
+fn chip_at(mut chip: Chip, endpoint: EndpointNumber, acknowledged: bool, verdict: InVerdict) -> Chip
     ensures { λ r. ⌜ r ≡ outcomeAt endpoint chip acknowledged verdict .state ⌝ }
 {
     match verdict {
@@ -197,7 +209,12 @@ fn chip_at(mut chip: Chip, endpoint: u8, acknowledged: bool, verdict: InVerdict)
 }
 
 // IN at endpoint 0, 2 or 3.
-pub fn answer(chip: Chip, endpoint: u8, acknowledged: bool, reply: &mut [u8]) -> EventAnswer
+pub fn answer(
+    chip: Chip,
+    endpoint: EndpointNumber,
+    acknowledged: bool,
+    reply: &mut [u8],
+) -> EventAnswer
     requires { ⌜ (chip .ep0 .count ≤ 64) × (oldestCount 2 (chip .ep2 .ring) ≤ 64) × (chip .ep3 .count ≤ 64)
         × (64 ≤ length (now reply)) ⌝ }
     ensures { λ r. ⌜ (r ≡ outcomeAnswer (inAt endpoint chip acknowledged))

@@ -60,7 +60,7 @@ eventGrounds sound e n room =
     ∷ (eqb (e .code) 0 || ltb 12 (e .code), UnknownEvent)
     ∷ (isOut e && ltb 64 n, OutPayload n)
     ∷ (isSetup e && not (eqb n 8), SetupPayload n)
-    ∷ (isTransaction e && (ltb 127 (e .address) || ltb 15 (e .endpoint)), BadAddress)
+    ∷ (isTransaction e && (ltb 127 (e .address) || ltb 15 (e .endpoint .0)), BadAddress)
     ∷ []
 
 abbrev pub grounds : Bool → Call → List (Bool × Refusal)

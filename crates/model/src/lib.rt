@@ -1,5 +1,8 @@
 // What a call to a model is, and what it means to be a model of a chip: definitions and laws over any state, no functions.
-// The type below is the one that the code shares with the definitions.
+// The types below are those that the code shares with the definitions.
+
+// The number of an endpoint, 0 to 15: a kind of number of its own (document 02, Ask 3).
+pub struct EndpointNumber(pub u8);
 
 // An event of the bus side. Fields that an event does not use are ignored.
 pub struct Event {
@@ -10,7 +13,7 @@ pub struct Event {
     pub pins: u8,
     // SETUP, OUT, IN.
     pub address: u8,
-    pub endpoint: u8,
+    pub endpoint: EndpointNumber,
     // SETUP, OUT: the packet is damaged.
     pub damaged: bool,
     // OUT: the packet is a DATA1.

@@ -9,7 +9,7 @@ use lib.ListN.{length, length-map}
 use Rattle.bits.proofs.First.{testAt, first-none, noneGives, FirstAt, outcomeAt, first-at, ascending, first-only}
 use Rattle.refusal.specs.declared.Refusal.{Refusal}
 use Rattle.refusal.specs.declared.Refusal.the-variants.{Unsound, NoCommand, LongTransfer, ShortBuffer, UnknownEvent, OutPayload}
-use Rattle.refusal.specs.declared.Refusal.the-variants.{SetupPayload, BadAddress}
+use Rattle.refusal.specs.declared.Refusal.the-variants.{SetupPayload, BadAddress, NoDesk, DeskState, WrongKey, BadKey}
 use Rattle.refusal.specs.declared.Checked.{Checked}
 use Rattle.refusal.specs.declared.Checked.the-variants.{Accepted, Refused}
 use Rattle.refusal.specs.Number.{refusalNumber, refusalFound, refusalOf}
@@ -47,6 +47,10 @@ found-none UnknownEvent six eight = refl
 found-none (OutPayload n) six eight = absurd (six refl)
 found-none (SetupPayload n) six eight = absurd (eight refl)
 found-none BadAddress six eight = refl
+found-none NoDesk six eight = refl
+found-none DeskState six eight = refl
+found-none WrongKey six eight = refl
+found-none BadKey six eight = refl
 
 -- ---- a refusal by its number
 
@@ -60,6 +64,10 @@ refusal-of-number UnknownEvent = refl
 refusal-of-number (OutPayload n) = refl
 refusal-of-number (SetupPayload n) = refl
 refusal-of-number BadAddress = refl
+refusal-of-number NoDesk = refl
+refusal-of-number DeskState = refl
+refusal-of-number WrongKey = refl
+refusal-of-number BadKey = refl
 
 -- ---- a refused call
 

@@ -6,7 +6,7 @@ use lib.Dec.{eqb}
 use Rattle.bits.specs.First.{firstOf}
 use Rattle.refusal.specs.declared.Refusal.{Refusal}
 use Rattle.refusal.specs.declared.Refusal.the-variants.{Unsound, NoCommand, LongTransfer, ShortBuffer, UnknownEvent, OutPayload}
-use Rattle.refusal.specs.declared.Refusal.the-variants.{SetupPayload, BadAddress}
+use Rattle.refusal.specs.declared.Refusal.the-variants.{SetupPayload, BadAddress, NoDesk, DeskState, WrongKey, BadKey}
 
 abbrev pub refusalNumber : Refusal → ℕ
 refusalNumber Unsound = 1
@@ -17,6 +17,10 @@ refusalNumber UnknownEvent = 5
 refusalNumber (OutPayload n) = 6
 refusalNumber (SetupPayload n) = 8
 refusalNumber BadAddress = 7
+refusalNumber NoDesk = 9
+refusalNumber DeskState = 10
+refusalNumber WrongKey = 11
+refusalNumber BadKey = 12
 
 -- Ask 1: 6 and 8 tell the length found; 0 with any other
 abbrev pub refusalFound : Refusal → ℕ
@@ -28,18 +32,23 @@ refusalFound UnknownEvent = 0
 refusalFound (OutPayload n) = n
 refusalFound (SetupPayload n) = n
 refusalFound BadAddress = 0
+refusalFound NoDesk = 0
+refusalFound DeskState = 0
+refusalFound WrongKey = 0
+refusalFound BadKey = 0
 
 -- the refusal of a number, with the length where it tells one (`refusal-of-number`)
 abbrev pub refusalOf : ℕ → ℕ → Refusal
 refusalOf k n =
     firstOf
     ((eqb k 1, Unsound) ∷ (eqb k 2, NoCommand) ∷ (eqb k 3, LongTransfer) ∷ (eqb k 4, ShortBuffer) ∷ (eqb k 5, UnknownEvent)
-    ∷ (eqb k 6, OutPayload n) ∷ (eqb k 8, SetupPayload n) ∷ [])
+    ∷ (eqb k 6, OutPayload n) ∷ (eqb k 8, SetupPayload n) ∷ (eqb k 9, NoDesk) ∷ (eqb k 10, DeskState) ∷ (eqb k 11, WrongKey)
+    ∷ (eqb k 12, BadKey) ∷ [])
     BadAddress
 
--- Ask 1: 8 is checked where 6 is, before 7
+-- Ask 3: 9 to 12 are looked at before all the old ones; Ask 1: 8 is checked where 6 is, before 7
 abbrev pub refusalOrder : List ℕ
-refusalOrder = 1 ∷ 2 ∷ 3 ∷ 4 ∷ 5 ∷ 6 ∷ 8 ∷ 7 ∷ []
+refusalOrder = 9 ∷ 10 ∷ 11 ∷ 12 ∷ 1 ∷ 2 ∷ 3 ∷ 4 ∷ 5 ∷ 6 ∷ 8 ∷ 7 ∷ []
 
 -- how many numbers of the list stand before n
 abbrev pub placeIn : List ℕ → ℕ → ℕ

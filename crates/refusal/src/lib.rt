@@ -1,4 +1,4 @@
-// Why a call is refused (document 01, "Numbers of refusal", and document 02, Ask 1).
+// Why a call is refused (document 01, "Numbers of refusal", and document 02, Asks 1 and 3).
 ghost use mathlib.Core.Path.{_≡_};
 ghost use Rattle.refusal.specs.Number.{refusalNumber, refusalFound, refusalOf};
 
@@ -19,6 +19,14 @@ pub enum Refusal {
     SetupPayload(usize),
     // A transaction's address is over 127 or its endpoint over 15.
     BadAddress,
+    // There is no such desk.
+    NoDesk,
+    // The desk is closed or, on opening, already open.
+    DeskState,
+    // The key is not the desk's.
+    WrongKey,
+    // On opening: the key is 0, or in use at another open desk.
+    BadKey,
 }
 
 // Whether a call is accepted, or why not.
@@ -40,6 +48,10 @@ impl Refusal {
             Refusal::OutPayload(_n) => 6,
             Refusal::SetupPayload(_n) => 8,
             Refusal::BadAddress => 7,
+            Refusal::NoDesk => 9,
+            Refusal::DeskState => 10,
+            Refusal::WrongKey => 11,
+            Refusal::BadKey => 12,
         }
     }
 
@@ -56,6 +68,10 @@ impl Refusal {
             Refusal::OutPayload(n) => n,
             Refusal::SetupPayload(n) => n,
             Refusal::BadAddress => 0,
+            Refusal::NoDesk => 0,
+            Refusal::DeskState => 0,
+            Refusal::WrongKey => 0,
+            Refusal::BadKey => 0,
         }
     }
 
@@ -71,6 +87,10 @@ impl Refusal {
             5 => Refusal::UnknownEvent,
             6 => Refusal::OutPayload(found),
             8 => Refusal::SetupPayload(found),
+            9 => Refusal::NoDesk,
+            10 => Refusal::DeskState,
+            11 => Refusal::WrongKey,
+            12 => Refusal::BadKey,
             _ => Refusal::BadAddress,
         }
     }

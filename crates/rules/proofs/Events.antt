@@ -140,4 +140,4 @@ setup-keeps l c vs i =
 
 pub keeps-setup : (n : ℕ) → Kept n setupEvent unnotedEvent
 keeps-setup n l c e vs _ _ _ i =
-    cond-elim (Left l) (heard c (e .damaged) (e .address) && eqb (e .endpoint) 0) (λ _. setup-keeps l c vs i) (λ _. i)
+    cond-elim (Left l) (heard c (e .damaged) (e .address) && eqb (e .endpoint .0) 0) (λ _. setup-keeps l c vs i) (λ _. i)

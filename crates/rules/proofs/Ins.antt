@@ -146,17 +146,17 @@ Noted l e vs o = Agree (noteIn (l .0) e vs (o .gives), l .1) (o .state)
 pub keeps-in : (n : ℕ) → Kept n inEvent noteIn
 keeps-in n l c e vs _ _ _ i =
     let arrives : Bool = e .acknowledged in
-    let silent : Noted l e vs (outcome c silence) = rw (cond-same (eqb (e .endpoint) 2 && arrives) (l .0)) i in
+    let silent : Noted l e vs (outcome c silence) = rw (cond-same (eqb (e .endpoint .0) 2 && arrives) (l .0)) i in
     cond-elim (Noted l e vs) (heard c false (e .address))
     (λ _. first-each (Noted l e vs)
-    ((eqb (e .endpoint) 0, in0 c arrives) ∷ (eqb (e .endpoint) 2, in2 c arrives) ∷ (eqb (e .endpoint) 3, in3 c arrives) ∷ [])
+    ((eqb (e .endpoint .0) 0, in0 c arrives) ∷ (eqb (e .endpoint .0) 2, in2 c arrives) ∷ (eqb (e .endpoint .0) 3, in3 c arrives) ∷ [])
     (outcome c silence)
     ((λ zero.
-    let other : eqb (e .endpoint) 2 ≡ false = ap (λ (n : ℕ). eqb n 2) (eqb-true (e .endpoint) 0 zero) in
+    let other : eqb (e .endpoint .0) 2 ≡ false = ap (λ (n : ℕ). eqb n 2) (eqb-true (e .endpoint .0) 0 zero) in
     rw other (in-keeps l _ _ (in0Gone c) c arrives i (in0-gone l c i) (in0Verdict c)))
     ⨾ (λ two. rw two (in2-keeps l c arrives i))
     ⨾ (λ three.
-    let other : eqb (e .endpoint) 2 ≡ false = ap (λ (n : ℕ). eqb n 2) (eqb-true (e .endpoint) 3 three) in
+    let other : eqb (e .endpoint .0) 2 ≡ false = ap (λ (n : ℕ). eqb n 2) (eqb-true (e .endpoint .0) 3 three) in
     rw other (in-keeps l _ _ (in3Gone c) c arrives i (in3-gone l c i) (in3Verdict c)))
     ⨾ none)
     silent)

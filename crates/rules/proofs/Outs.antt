@@ -79,7 +79,7 @@ ep1-stores l c vs short room i =
     }
 
 -- stored or dropped by the toggle, which ledger and record hold alike
-out1-keeps : (l : Books) (c : Chip) (e : Event) (vs : List ℕ) → eqb (e .endpoint) 1 ≡ true → length vs ≤ 64 → Agree l c
+out1-keeps : (l : Books) (c : Chip) (e : Event) (vs : List ℕ) → eqb (e .endpoint .0) 1 ≡ true → length vs ≤ 64 → Agree l c
     → Noted l e vs (out1 c (e .data1) vs)
 out1-keeps l c e vs one short i =
     first-elim (λ (v : OutVerdict). Noted l e vs (outOutcome c (out1Taken c vs) v))
@@ -102,10 +102,10 @@ out1-keeps l c e vs one short i =
 pub keeps-out : Kept 11 outEvent noteOut
 keeps-out l c e vs code short _ i =
     cond-elim (Noted l e vs) (heard c (e .damaged) (e .address))
-    (λ _. first-each (Noted l e vs) ((eqb (e .endpoint) 0, out0 c (e .data1) vs) ∷ (eqb (e .endpoint) 1, out1 c (e .data1) vs) ∷ [])
+    (λ _. first-each (Noted l e vs) ((eqb (e .endpoint .0) 0, out0 c (e .data1) vs) ∷ (eqb (e .endpoint .0) 1, out1 c (e .data1) vs) ∷ [])
     (outcome c silence)
     ((λ zero.
-    let other : eqb (e .endpoint) 1 ≡ false = ap (λ (n : ℕ). eqb n 1) (eqb-true (e .endpoint) 0 zero) in
+    let other : eqb (e .endpoint .0) 1 ≡ false = ap (λ (n : ℕ). eqb n 1) (eqb-true (e .endpoint .0) 0 zero) in
     rw other (out0-keeps l c vs (short refl) i (out0Verdict c (e .data1) (length vs))))
     ⨾ (λ one. out1-keeps l c e vs one (short refl) i)
     ⨾ none)
@@ -113,4 +113,4 @@ keeps-out l c e vs code short _ i =
     (λ _. silent l e vs i)
   where
     silent : (l : Books) (e : Event) (vs : List ℕ) → Agree l c → Noted l e vs (outcome c silence)
-    silent l e vs i = rw (and-false (eqb (e .endpoint) 1)) i
+    silent l e vs i = rw (and-false (eqb (e .endpoint .0) 1)) i

@@ -58,7 +58,7 @@ abbrev pub spi : List ℕ → List ℕ → Step
 spi bytes reply = called (transfer bytes 4096) (answered (transferred reply)) (Level High)
 
 abbrev pub plain : ℕ → Event
-plain code = record { code = code; pins = 0; address = 0; endpoint = 0; damaged = false; data1 = false; acknowledged = false }
+plain code = record { code = code; pins = 0; address = 0; endpoint = record { 0 = 0 }; damaged = false; data1 = false; acknowledged = false }
 
 abbrev pub signals : ℕ → Step
 signals code = called (event (plain code) [] 0) (answered done) (Level High)
@@ -67,14 +67,14 @@ signals code = called (event (plain code) [] 0) (answered done) (Level High)
 abbrev pub out : ℕ → Bool → List ℕ → Reply → Step
 out endpoint toggle vs a =
     called
-    (event (record { code = 11; pins = 0; address = 0; endpoint = endpoint; damaged = false; data1 = toggle; acknowledged = false }) vs 0)
+    (event (record { code = 11; pins = 0; address = 0; endpoint = record { 0 = endpoint }; damaged = false; data1 = toggle; acknowledged = false }) vs 0)
     (answered a) (Level High)
 
 -- IN to an endpoint, whose ACK arrives where true
 abbrev pub «in» : ℕ → Bool → Reply → Step
 «in» endpoint arrives a =
     called
-    (event (record { code = 12; pins = 0; address = 0; endpoint = endpoint; damaged = false; data1 = false; acknowledged = arrives }) [] 64)
+    (event (record { code = 12; pins = 0; address = 0; endpoint = record { 0 = endpoint }; damaged = false; data1 = false; acknowledged = arrives }) [] 64)
     (answered a) (Level High)
 
 abbrev pub setup : List ℕ → Step

@@ -78,13 +78,13 @@ activityEvent = whenSeen (raiseUsbirq busactirq)
 
 -- 10: SETUP, at endpoint 0 only; a damaged one is not heard (decision 24)
 abbrev pub setupEvent : EventRule
-setupEvent c e vs = cond (heard c (e .damaged) (e .address) && eqb (e .endpoint) 0) (outcome (setupTo c vs) ack) (outcome c silence)
+setupEvent c e vs = cond (heard c (e .damaged) (e .address) && eqb (e .endpoint .0) 0) (outcome (setupTo c vs) ack) (outcome c silence)
 
 -- 11: OUT, to endpoint 0 or 1
 abbrev pub outEvent : EventRule
 outEvent c e vs =
     cond (heard c (e .damaged) (e .address))
-    (firstOf ((eqb (e .endpoint) 0, out0 c (e .data1) vs) ∷ (eqb (e .endpoint) 1, out1 c (e .data1) vs) ∷ []) (outcome c silence))
+    (firstOf ((eqb (e .endpoint .0) 0, out0 c (e .data1) vs) ∷ (eqb (e .endpoint .0) 1, out1 c (e .data1) vs) ∷ []) (outcome c silence))
     (outcome c silence)
 
 -- 12: IN, to endpoint 0, 2 or 3; it has no damaged mark (decision 38)
@@ -92,8 +92,8 @@ abbrev pub inEvent : EventRule
 inEvent c e vs =
     cond (heard c false (e .address))
     (firstOf
-    ((eqb (e .endpoint) 0, in0 c (e .acknowledged)) ∷ (eqb (e .endpoint) 2, in2 c (e .acknowledged)) ∷
-    (eqb (e .endpoint) 3, in3 c (e .acknowledged)) ∷ [])
+    ((eqb (e .endpoint .0) 0, in0 c (e .acknowledged)) ∷ (eqb (e .endpoint .0) 2, in2 c (e .acknowledged)) ∷
+    (eqb (e .endpoint .0) 3, in3 c (e .acknowledged)) ∷ [])
     (outcome c silence))
     (outcome c silence)
 

@@ -20,7 +20,7 @@ use Rattle.rules.specs.Bench.{writes, reads}
 -- a transaction's event at an address and endpoint, undamaged
 abbrev pub transaction : ℕ → ℕ → ℕ → Event
 transaction code address endpoint =
-    record { code = code; pins = 0; address = address; endpoint = endpoint; damaged = false; data1 = false; acknowledged = false }
+    record { code = code; pins = 0; address = address; endpoint = record { 0 = endpoint }; damaged = false; data1 = false; acknowledged = false }
 
 -- a call that is answered so, the pin inactive
 abbrev pub answers : Event → List ℕ → Reply → Step
@@ -117,19 +117,19 @@ silent =
     ∷ noChange («in» 1 true silence) ∷ noChange (out 2 false [] silence)
     ∷ noChange (answers (transaction 10 0 1) (replicate 8 0) silence) ∷ noChange (answers (transaction 11 1 0) [] silence)
     ∷ noChange (answers (transaction 12 1 2) [] silence)
-    ∷ noChange (answers (record { code = 10; pins = 0; address = 0; endpoint = 0; damaged = true; data1 = false; acknowledged = false })
+    ∷ noChange (answers (record { code = 10; pins = 0; address = 0; endpoint = record { 0 = 0 }; damaged = true; data1 = false; acknowledged = false })
     (replicate 8 0) silence)
     ∷ noChange (answers (record {
       code = 11;
       pins = 0;
       address = 0;
-      endpoint = 1;
+      endpoint = record { 0 = 1 };
       damaged = true;
       data1 = true;
       acknowledged =
           false;
     }) [] silence)
-    ∷ answers (record { code = 12; pins = 0; address = 0; endpoint = 2; damaged = true; data1 = false; acknowledged = false }) [] nak
+    ∷ answers (record { code = 12; pins = 0; address = 0; endpoint = record { 0 = 2 }; damaged = true; data1 = false; acknowledged = false }) [] nak
     ∷ [])
 
 -- STALL by each endpoint's own bit
@@ -218,7 +218,7 @@ storedRegisters =
       code = 5;
       pins = 0x3f;
       address = 0;
-      endpoint = 0;
+      endpoint = record { 0 = 0 };
       damaged = false;
       data1 = false;
       acknowledged =

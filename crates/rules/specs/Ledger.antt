@@ -184,7 +184,7 @@ isAck (sent t vs) = false
 
 abbrev pub noteOut : LedgerEvent
 noteOut l e vs a =
-    cond ((eqb (e .endpoint) 1 && isAck a) && Bool·beq (e .data1) (isOn (l .receiver .toggle))) (setReceiver (receiverStored (l .receiver) vs) l) l
+    cond ((eqb (e .endpoint .0) 1 && isAck a) && Bool·beq (e .data1) (isOn (l .receiver .toggle))) (setReceiver (receiverStored (l .receiver) vs) l) l
 
 -- IN at endpoint 2 answered with data, its ACK arriving: the reply's bytes join acknowledged
 abbrev pub senderAcknowledged : Sender → List ℕ → Sender
@@ -201,7 +201,7 @@ noteSent l stall = l
 noteSent l (sent t vs) = setSender (senderAcknowledged (l .sender) vs) l
 
 abbrev pub noteIn : LedgerEvent
-noteIn l e vs a = cond (eqb (e .endpoint) 2 && e .acknowledged) (noteSent l a) l
+noteIn l e vs a = cond (eqb (e .endpoint .0) 2 && e .acknowledged) (noteSent l a) l
 
 abbrev pub ledgerEvents : List LedgerEvent
 ledgerEvents =

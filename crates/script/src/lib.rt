@@ -2,6 +2,7 @@
 ghost use Prim.Native.Nat.{_≤_};
 ghost use lib.ListN.{length};
 ghost use Rattle.script.specs.Command.{commandCount, payloadCount};
+use model::EndpointNumber;
 use model::Event;
 use numerals::ByteWord;
 use numerals::DecimalWord;
@@ -81,7 +82,7 @@ fn make_event(code: u8) -> Event {
         code,
         pins: 0,
         address: 0,
-        endpoint: 0,
+        endpoint: EndpointNumber(0),
         damaged: false,
         data1: false,
         acknowledged: false,
@@ -204,9 +205,10 @@ fn read_target(line: &[u8], at: usize, code: u8) -> Target {
         return Target::Fault(make_fault(Expected::Address, first));
     };
     let second = words::next_word(line, first.end);
-    let ByteWord::Byte(endpoint) = byte_at(line, second) else {
+    let ByteWord::Byte(number) = byte_at(line, second) else {
         return Target::Fault(make_fault(Expected::Endpoint, second));
     };
+    let endpoint = EndpointNumber(number);
     let mut transaction = make_event(code);
     transaction.address = address;
     transaction.endpoint = endpoint;

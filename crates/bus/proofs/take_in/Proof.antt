@@ -21,8 +21,8 @@ returns c =
 
 answer-requires : tie.Need-answer-requires
 answer-requires c κs =
-    let d = c .before .before .before .before .before .args .chip in
-    let pre = c .before .before .before .before .before .pre in
+    let d = c .before .before .before .before .before .before .args .chip in
+    let pre = c .before .before .before .before .before .before .pre in
     let sound = sound-clauses d (pre .0) in
     (sound .ep0 .count, oldest-small 2 (d .ep2 .ring) (sound .ep2 .ring), sound .ep3 .count, pre .1)
 
@@ -31,10 +31,10 @@ same-length c = search needs
 
 returns-2 : tie.Need-returns-2
 returns-2 c =
-    let a = c .before .before .before .before .before .before .before .before .args in
-    let heard = c .before .before .before .before .before .before .heard in
-    let first = c .before .before .before .before .before .if1 in
-    let test = c .before .before .before .before .if2 in
+    let a = c .before .before .before .before .before .before .before .before .before .args in
+    let heard = c .before .before .before .before .before .before .before .heard in
+    let first = c .before .before .before .before .before .before .if1 in
+    let test = c .before .before .before .before .before .if2 in
     λ vs. rw (
       ← heard .ensures,
       not-false (heard .result) (first .left),

@@ -1,0 +1,1 @@
+// Lists of orders to the classroom: definitions, theorems and a lesson, no functions.
