@@ -148,9 +148,9 @@ fn with_board(room: Classroom, number: DeskNumber, board: Board) -> Classroom
     requires { ⌜ isDesk number ≡ true ⌝ }
     ensures { λ r. ⌜ r ≡ setDesk number (setBoard board (deskAt room number)) room ⌝ }
 {
-    let mut desk = room.desk_at(number);
-    desk.board = board;
-    room.with_desk(number, desk)
+    let mut seat = room.desk_at(number);
+    seat.board = board;
+    room.with_desk(number, seat)
 }
 
 pub fn transfer(
