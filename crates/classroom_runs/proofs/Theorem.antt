@@ -1,15 +1,17 @@
 -- For every list of orders from the start, refused ones included: desks do not interfere; demand 3 at every desk, and what a call there
 -- is told, from its last accepted opening as from a power-on; every classroom reached is sound.
 use mathlib.Core.Path.{_≡_, refl, sym, ap, _∙_, subst}
-use mathlib.Core.Bool.{Bool, true, false, not, _&&_}
+use mathlib.Core.Bool.{Bool, true, false, not, _&&_, _||_}
 use mathlib.Core.List.{List, [], _∷_, map}
 use Prim.Native.Nat.{ℕ, zero, suc, _<_}
 use native.Mathlib.Omega.{arith}
 use lib.Dec.{eqb}
 use lib.ListN.{length, getD}
 use borrow.Author.Tests.{not-false, lt-ltb, eq-eqb}
-use Rattle.bits.proofs.Cases.{and-true, clause-at}
-use Rattle.refusal.specs.declared.Checked.the-variants.{Accepted}
+use Rattle.bits.proofs.Cases.{and-true, clause-at, true-is-false}
+use Rattle.refusal.specs.declared.Refusal.the-variants.{Unsound, NoDesk, DeskState, WrongKey, BadKey}
+use Rattle.refusal.specs.declared.Checked.the-variants.{Accepted, Refused}
+use Rattle.refusal.specs.Check.{check, checkedNumber}
 use Rattle.refusal.proofs.Check.{accepted-none}
 use Rattle.chip.specs.declared.Chip.{Chip}
 use Rattle.chip.specs.Record.{powerOnChip}
@@ -29,10 +31,10 @@ use Rattle.classroom_record.specs.declared.Desk.{Desk}
 use Rattle.classroom_record.specs.declared.DeskNumber.{DeskNumber}
 use Rattle.classroom_record.specs.declared.Classroom.{Classroom}
 use Rattle.classroom_record.specs.Record.{isDesk, isOpen, closedDesk, allClosed, sameBoard, soundDesk, deskAt, keyInUse, allSound, soundClassroom}
-use Rattle.classroom.specs.Calls.{openingGrounds, openingChecked, openedDesk}
+use Rattle.classroom.specs.Calls.{openingGrounds, openingChecked, closingChecked, openedDesk}
 use Rattle.classroom.proofs.Here.{opening-here}
-use Rattle.classroom_runs.specs.Orders.{PupilCall, boardCall, toldBy, Order, opens, calls, told, responseOf, orderTo, classTo, classHistory}
-use Rattle.classroom_runs.specs.Orders.{sentTo, heardAt, unclosed}
+use Rattle.classroom_runs.specs.Orders.{PupilCall, boardCall, toldBy, Order, opens, closes, calls, told, orderChecked, responseOf, orderTo}
+use Rattle.classroom_runs.specs.Orders.{classTo, classHistory, sentTo, heardAt, unclosed}
 use Rattle.classroom_runs.proofs.Step.{Sixteen, stays-sixteen, deskBy, step-own}
 use Rattle.classroom_runs.proofs.Alone.{aloneHistory, alone}
 use Rattle.classroom_runs.proofs.Lived.{boardAfter, Lived, shut, seated, callsAt, lived, run-sixteen}
@@ -132,3 +134,46 @@ classroom-reached-sound os =
     let room = classTo allClosed os in
     let sixteen = run-sixteen os allClosed refl in
     all-sound (room .desks) (λ i h. lived-sound (lived os (record { 0 = i }) (lt-ltb i 16 (omega (arith, h, sixteen)))))
+
+-- ---- so an open desk can be closed, and a closed one opened with a key that is free; refusal 1 answers no order
+
+desk-sound : (os : List Order) (n : DeskNumber) → isDesk n ≡ true → soundDesk (deskAt (classTo allClosed os) n) ≡ true
+desk-sound os n here = lived-sound (lived os n here)
+
+pub closing-accepted : (os : List Order) (n : DeskNumber) → isDesk n ≡ true → isOpen (deskAt (classTo allClosed os) n) ≡ true
+    → closingChecked (classTo allClosed os) n ≡ Accepted
+closing-accepted os n here w = rw (here, desk-sound os n here, w)
+
+pub opening-accepted : (os : List Order) (n : DeskNumber) (key : ℕ) → isDesk n ≡ true → isOpen (deskAt (classTo allClosed os) n) ≡ false
+    → eqb key 0 ≡ false → keyInUse (classTo allClosed os) key ≡ false → openingChecked (classTo allClosed os) n key ≡ Accepted
+opening-accepted os n key here w some free = rw (here, desk-sound os n here, w, some, free)
+
+-- 1 is the last ground of the teacher's orders, and a pupil's have it not
+never-last : (a b c d : Bool) → (a ≡ false → d ≡ false) → check ((a, NoDesk) ∷ (b, DeskState) ∷ (c, BadKey) ∷ (d, Unsound) ∷ []) ≡ Refused Unsound
+    → ⊥
+never-last true b c d f e = let z : _≡_ {A = ℕ} 9 1 = ap checkedNumber e in omega (arith, z)
+never-last false true c d f e = let z : _≡_ {A = ℕ} 10 1 = ap checkedNumber e in omega (arith, z)
+never-last false false true d f e = let z : _≡_ {A = ℕ} 12 1 = ap checkedNumber e in omega (arith, z)
+never-last false false false true f e = true-is-false (f refl)
+never-last false false false false f e = let z : _≡_ {A = ℕ} 0 1 = ap checkedNumber e in omega (arith, z)
+
+never-any : (a b c : Bool) → check ((a, NoDesk) ∷ (b, DeskState) ∷ (c, WrongKey) ∷ []) ≡ Refused Unsound → ⊥
+never-any true b c e = let z : _≡_ {A = ℕ} 9 1 = ap checkedNumber e in omega (arith, z)
+never-any false true c e = let z : _≡_ {A = ℕ} 10 1 = ap checkedNumber e in omega (arith, z)
+never-any false false true e = let z : _≡_ {A = ℕ} 11 1 = ap checkedNumber e in omega (arith, z)
+never-any false false false e = let z : _≡_ {A = ℕ} 0 1 = ap checkedNumber e in omega (arith, z)
+
+-- where 9 does not apply, the desk is sound
+sound-here : (os : List Order) (n : DeskNumber) → not (isDesk n) ≡ false → not (soundDesk (deskAt (classTo allClosed os) n)) ≡ false
+sound-here os n here = ap not (desk-sound os n (not-false (isDesk n) here))
+
+pub never-unsound : (os : List Order) (o : Order) → orderChecked (classTo allClosed os) o ≡ Refused Unsound → ⊥
+never-unsound os (opens n key) e =
+    let d = deskAt (classTo allClosed os) n in
+    never-last (not (isDesk n)) (isOpen d) (eqb key 0 || keyInUse (classTo allClosed os) key) (not (soundDesk d)) (sound-here os n) e
+never-unsound os (closes n) e =
+    let d = deskAt (classTo allClosed os) n in
+    never-last (not (isDesk n)) (not (isOpen d)) false (not (soundDesk d)) (sound-here os n) e
+never-unsound os (calls n key k) e =
+    let d = deskAt (classTo allClosed os) n in
+    never-any (not (isDesk n)) (not (isOpen d)) (not (eqb (d .key) key)) e
