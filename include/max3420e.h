@@ -1,7 +1,9 @@
-/* The MAX3420E, a USB peripheral controller with an SPI interface, as a C library (libcapi.a).
+/* The MAX3420E, a USB peripheral controller with an SPI interface, as a C library: libcapi.a, and
+ * libcapi_classroom.a for the classroom.
  *
  * The chip is a record. Every call takes it by value and hands back the next one: keep one record per chip and store
- * `answer.chip` after each call. The library keeps nothing and allocates nothing.
+ * `answer.chip` after each call. A classroom of sixteen boards is a record too. The library keeps nothing and allocates
+ * nothing.
  *
  * A refused call (`refusal` is not 0) hands the records back unchanged and writes no byte of `reply`. Else just the
  * first `count` bytes of `reply` are written. `bytes`, `payload` and `reply` are not null, point to as many bytes as is
@@ -20,13 +22,19 @@ extern "C" {
 enum max3420e_limit {
     MAX3420E_BUFFER = 64,     /* bytes of a packet, at most; the room that an IN and a board step want */
     MAX3420E_SETUP = 8,       /* bytes of a SETUP */
-    MAX3420E_TRANSFER = 4096  /* bytes of a transfer, at most, the command byte among them */
+    MAX3420E_TRANSFER = 4096, /* bytes of a transfer, at most, the command byte among them */
+    MAX3420E_DESKS = 16       /* desks of a classroom */
 };
 
-/* Why a call is refused. They are looked at in the order of this list; the first that applies is given. */
+/* Why a call is refused. They are looked at in the order of this list; the first that applies is given.
+ * 9 to 12 are those of the classroom's calls. */
 enum max3420e_refusal {
     MAX3420E_ACCEPTED = 0,
-    MAX3420E_UNSOUND = 1,       /* a record is not sound; a flag that is neither 0 nor 1 makes it so */
+    MAX3420E_NO_DESK = 9,       /* a desk's number is over 15 */
+    MAX3420E_DESK_STATE = 10,   /* the desk is closed or, on opening, already open */
+    MAX3420E_WRONG_KEY = 11,    /* the key is not the desk's */
+    MAX3420E_BAD_KEY = 12,      /* on opening, the key is 0, or in use at another open desk */
+    MAX3420E_UNSOUND = 1,       /* a record is not sound; a flag that is neither 0 nor 1 makes it so; at a desk, one of its own */
     MAX3420E_NO_COMMAND = 2,    /* a transfer has no command byte */
     MAX3420E_LONG_TRANSFER = 3, /* a transfer has over 4,096 bytes */
     MAX3420E_SHORT_BUFFER = 4,  /* room is under the transfer's length, or under 64 for an IN or a board step */
@@ -188,6 +196,49 @@ typedef struct {
     size_t found;      /* how many setup bytes there are, if `refusal` is 8; else 0 */
 } max3420e_request_answer;
 
+/* ---- the classroom: sixteen desks, each with a board */
+
+typedef struct {
+    max3420e_chip chip;
+    max3420e_firmware firmware;
+} max3420e_board;
+
+/* Where `opened` is not 1 the desk is closed, and sound only with both records at power-on, `opened` 0 and `key` 0. */
+typedef struct {
+    max3420e_board board;
+    uint8_t opened; /* flag */
+    uint32_t key;   /* the session key of the pupil; 0 is none */
+} max3420e_desk;
+
+typedef struct {
+    max3420e_desk desks[MAX3420E_DESKS];
+} max3420e_classroom;
+
+/* What opening and closing a desk hand back. */
+typedef struct {
+    max3420e_classroom classroom;
+    uint8_t refusal; /* enum max3420e_refusal */
+} max3420e_teacher_answer;
+
+/* What a pupil's calls hand back. Where 9 to 11 refuse one, `pin` is MAX3420E_PIN_OPEN: it tells nothing of the desk. */
+typedef struct {
+    max3420e_classroom classroom;
+    uint8_t refusal; /* enum max3420e_refusal */
+    uint8_t pid;     /* enum max3420e_pid */
+    uint16_t count;  /* bytes written to `reply` */
+    uint8_t pin;     /* enum max3420e_pin */
+    size_t found;    /* the payload's length, if `refusal` is 6 or 8; else 0 */
+} max3420e_desk_answer;
+
+typedef struct {
+    max3420e_classroom classroom;
+    uint8_t refusal; /* enum max3420e_refusal */
+    uint8_t kind;    /* enum max3420e_kind */
+    uint16_t count;  /* bytes written to `reply` */
+    uint8_t pin;     /* enum max3420e_pin */
+    size_t found;    /* 0: a step is never refused with 6 or 8 */
+} max3420e_desk_step_answer;
+
 /* The record at power-on. */
 max3420e_chip max3420e_power_on(void);
 
@@ -209,6 +260,29 @@ max3420e_board_answer max3420e_board_step(max3420e_chip chip, max3420e_firmware 
  * Refusals 1, 4 and 8. Hold your own firmware's answers to it. */
 max3420e_request_answer max3420e_firmware_answer(max3420e_firmware firmware, const uint8_t *setup, size_t length,
                                                  uint8_t *reply, size_t room);
+
+/* The classroom at the start: all sixteen desks closed. */
+max3420e_classroom max3420e_classroom_start(void);
+
+/* The teacher opens a desk with a session key. Refusals 9, 10, 12 and 1. */
+max3420e_teacher_answer max3420e_open_desk(max3420e_classroom classroom, uint8_t desk, uint32_t key);
+
+/* The teacher closes a desk: both its records go back to power-on. Refusals 9, 10 and 1. */
+max3420e_teacher_answer max3420e_close_desk(max3420e_classroom classroom, uint8_t desk);
+
+/* A pupil's calls: a transfer, an event or a board step on the records of his desk. Refusals 9 to 11, then those of the
+ * call itself. An event is the board's: power-on, and a bus reset start that the chip sees, put the firmware's record
+ * back; the desk stays open with its key. */
+max3420e_desk_answer max3420e_desk_transfer(max3420e_classroom classroom, uint8_t desk, uint32_t key,
+                                            const uint8_t *bytes, size_t length, uint8_t *reply, size_t room);
+
+max3420e_desk_answer max3420e_desk_event(max3420e_classroom classroom, uint8_t desk, uint32_t key, uint8_t code,
+                                         uint8_t pins, uint8_t address, uint8_t endpoint, uint8_t damaged,
+                                         uint8_t data1, uint8_t acknowledged, const uint8_t *payload, size_t length,
+                                         uint8_t *reply, size_t room);
+
+max3420e_desk_step_answer max3420e_desk_step(max3420e_classroom classroom, uint8_t desk, uint32_t key, uint8_t *reply,
+                                             size_t room);
 
 #ifdef __cplusplus
 }

@@ -1,5 +1,5 @@
-//! Links libcapi.a, the proved model, where it exists, and sets `cfg(capi)` then. Its folder is CAPI_DIR; without that
-//! variable ../target/staticlib, and a missing archive is no error: what needs it is left out.
+//! Links libcapi.a and libcapi_classroom.a, the proved model, where both exist, and sets `cfg(capi)` then. Their folder is
+//! CAPI_DIR; without that variable ../target/staticlib, and a missing archive is no error: what needs it is left out.
 
 use std::path::{Path, PathBuf};
 
@@ -8,14 +8,20 @@ fn main() {
     println!("cargo::rerun-if-env-changed=CAPI_DIR");
     let named = std::env::var_os("CAPI_DIR").map(PathBuf::from);
     let folder = named.clone().unwrap_or_else(|| Path::new(env!("CARGO_MANIFEST_DIR")).join("../target/staticlib"));
-    let archive = folder.join("libcapi.a");
-    // Also where it is missing: cargo then looks again at every build.
-    println!("cargo::rerun-if-changed={}", archive.display());
-    if archive.exists() {
-        println!("cargo::rustc-cfg=capi");
-        println!("cargo::rustc-link-search=native={}", folder.display());
-        println!("cargo::rustc-link-lib=static=capi");
-    } else if named.is_some() {
-        println!("cargo::error=CAPI_DIR is set, but there is no {}", archive.display());
+    let archives = ["capi", "capi_classroom"].map(|name| (name, folder.join(format!("lib{name}.a"))));
+    for (_, archive) in &archives {
+        // Also where it is missing: cargo then looks again at every build.
+        println!("cargo::rerun-if-changed={}", archive.display());
+    }
+    if let Some((_, missing)) = archives.iter().find(|(_, archive)| !archive.exists()) {
+        if named.is_some() {
+            println!("cargo::error=CAPI_DIR is set, but there is no {}", missing.display());
+        }
+        return;
+    }
+    println!("cargo::rustc-cfg=capi");
+    println!("cargo::rustc-link-search=native={}", folder.display());
+    for (name, _) in &archives {
+        println!("cargo::rustc-link-lib=static={name}");
     }
 }

@@ -1,10 +1,11 @@
 #!/bin/sh
 # The C interface: the header's layout against the library, and the firmware of examples/ on the model, under the address and
-# undefined-behaviour sanitizers. Run it once target/staticlib/libcapi.a is built (rt staticlib capi).
+# undefined-behaviour sanitizers. Run it once both archives are built (rt staticlib capi; rt staticlib capi_classroom).
 set -eu
 cd "$(dirname "$0")/.."
-library=target/staticlib/libcapi.a
-[ -f "$library" ] || { echo "c: $library is missing: rt staticlib capi" >&2; exit 1; }
+for name in capi capi_classroom; do
+    [ -f "target/staticlib/lib$name.a" ] || { echo "c: lib$name.a is missing: rt staticlib $name" >&2; exit 1; }
+done
 work=$(mktemp -d)
 trap 'rm -rf "$work"' EXIT
 trap 'exit 1' HUP INT TERM
@@ -14,7 +15,7 @@ build() {
     name=$1
     shift
     cc -std=c99 -Wall -Wextra -Werror -pedantic -g -fsanitize=address,undefined -fno-sanitize-recover=all \
-        -Iinclude -Iexamples "$@" "$library" -o "$work/$name"
+        -Iinclude -Iexamples "$@" target/staticlib/libcapi.a target/staticlib/libcapi_classroom.a -o "$work/$name"
 }
 
 build layout tests/layout.c
@@ -26,4 +27,7 @@ cmp "$work/connect.out" examples/connect.out
 build firmware examples/firmware.c examples/host.c
 "$work/firmware" >"$work/firmware.out"
 cmp "$work/firmware.out" examples/firmware.out
-echo "c: layout, connect and firmware as expected"
+build classroom examples/classroom.c
+"$work/classroom" >"$work/classroom.out"
+cmp "$work/classroom.out" examples/classroom_c.out
+echo "c: layout, connect, firmware and classroom as expected"

@@ -1,6 +1,7 @@
 /* Does libcapi.a lay out the records as include/max3420e.h does? Prints where each field stands. Checks that a refused
  * call hands a record of distinct values back, field by field; that each byte of it has its own limit of soundness; and
- * what single calls read and change, which tells fields with equal limits apart. Exit status 1 on a mismatch. */
+ * what single calls read and change, which tells fields with equal limits apart. The same of a classroom, desk by desk.
+ * Exit status 1 on a mismatch. */
 #include <stdio.h>
 #include <string.h>
 
@@ -62,6 +63,15 @@ static const field other_fields[] = {
     OF(max3420e_board_answer, found),
     OF(max3420e_request_answer, firmware), OF(max3420e_request_answer, refusal), OF(max3420e_request_answer, kind),
     OF(max3420e_request_answer, endpoints), OF(max3420e_request_answer, count), OF(max3420e_request_answer, found),
+    OF(max3420e_board, chip), OF(max3420e_board, firmware),
+    OF(max3420e_desk, board), OF(max3420e_desk, opened), OF(max3420e_desk, key),
+    OF(max3420e_classroom, desks),
+    OF(max3420e_teacher_answer, classroom), OF(max3420e_teacher_answer, refusal),
+    OF(max3420e_desk_answer, classroom), OF(max3420e_desk_answer, refusal), OF(max3420e_desk_answer, pid),
+    OF(max3420e_desk_answer, count), OF(max3420e_desk_answer, pin), OF(max3420e_desk_answer, found),
+    OF(max3420e_desk_step_answer, classroom), OF(max3420e_desk_step_answer, refusal),
+    OF(max3420e_desk_step_answer, kind), OF(max3420e_desk_step_answer, count), OF(max3420e_desk_step_answer, pin),
+    OF(max3420e_desk_step_answer, found),
 };
 
 static unsigned mismatches;
@@ -78,7 +88,7 @@ static void expect(int holds, const char *what)
 static void print_fields(const field *fields, size_t count)
 {
     for (size_t i = 0; i < count; i++)
-        printf("%-22s %-20s at %3u size %3u\n", fields[i].owner, fields[i].name, (unsigned)fields[i].offset,
+        printf("%-25s %-20s at %4u size %4u\n", fields[i].owner, fields[i].name, (unsigned)fields[i].offset,
                (unsigned)fields[i].size);
 }
 
@@ -297,6 +307,217 @@ static void check_firmware(void)
     expect(answer.kind == MAX3420E_KIND_STALL && answer.count == 0, "a request that is stalled");
 }
 
+static int same_firmware(const max3420e_firmware *a, const max3420e_firmware *b)
+{
+    return memcmp(a, b, sizeof *a) == 0;
+}
+
+/* Desk by desk and field by field: between `opened` and `key` lie bytes that are none. */
+static void expect_same_room(const max3420e_classroom *got, const max3420e_classroom *wanted, const char *what)
+{
+    for (unsigned i = 0; i < MAX3420E_DESKS; i++) {
+        const max3420e_desk *g = &got->desks[i], *w = &wanted->desks[i];
+        expect_same(&g->board.chip, &w->board.chip, what);
+        expect(same_firmware(&g->board.firmware, &w->board.firmware), what);
+        expect(g->opened == w->opened && g->key == w->key, what);
+    }
+}
+
+static uint32_t key_of(unsigned desk)
+{
+    return 0x01020304u * (desk + 1) + 0x80000000u;
+}
+
+/* Sixteen open desks, sound, no two alike. */
+static max3420e_classroom distinct_room(void)
+{
+    max3420e_classroom room = max3420e_classroom_start();
+    for (unsigned i = 0; i < MAX3420E_DESKS; i++) {
+        max3420e_desk *desk = &room.desks[i];
+        desk->board.chip = distinct();
+        desk->board.chip.ep0.bytes[i] = (uint8_t)(0xE0 + i);
+        desk->board.firmware = (max3420e_firmware){(uint8_t)(i & 1), (uint8_t)(i >> 1 & 1), 0};
+        desk->opened = 1, desk->key = key_of(i);
+    }
+    return room;
+}
+
+/* A transfer without a command byte: refused with 2, if with nothing before. */
+static unsigned call_refusal(const max3420e_classroom *room, unsigned desk, uint32_t key)
+{
+    max3420e_desk_answer answer = max3420e_desk_transfer(*room, (uint8_t)desk, key, reply, 0, reply, 0);
+    expect(answer.pid == 0 && answer.count == 0 && answer.found == 0, "the answer of a refused call at a desk");
+    expect_same_room(&answer.classroom, room, "a refused call at a desk changes the classroom");
+    return answer.refusal;
+}
+
+static unsigned open_refusal(const max3420e_classroom *room, unsigned desk, uint32_t key)
+{
+    max3420e_teacher_answer answer = max3420e_open_desk(*room, (uint8_t)desk, key);
+    max3420e_classroom wanted = *room;
+    if (answer.refusal == 0)
+        wanted.desks[desk].opened = 1, wanted.desks[desk].key = key;
+    expect_same_room(&answer.classroom, &wanted, "opening a desk");
+    return answer.refusal;
+}
+
+static unsigned close_refusal(const max3420e_classroom *room, unsigned desk)
+{
+    max3420e_teacher_answer answer = max3420e_close_desk(*room, (uint8_t)desk);
+    max3420e_classroom wanted = *room;
+    if (answer.refusal == 0)
+        wanted.desks[desk] = max3420e_classroom_start().desks[0];
+    expect_same_room(&answer.classroom, &wanted, "closing a desk");
+    return answer.refusal;
+}
+
+/* All sixteen start closed, at power-on. */
+static void check_start(void)
+{
+    static const max3420e_firmware plain;
+    max3420e_classroom room = max3420e_classroom_start();
+    max3420e_chip chip = max3420e_power_on();
+    for (unsigned i = 0; i < MAX3420E_DESKS; i++) {
+        expect_same(&room.desks[i].board.chip, &chip, "a desk's chip at the start");
+        expect(same_firmware(&room.desks[i].board.firmware, &plain), "a desk's firmware at the start");
+        expect(room.desks[i].opened == 0 && room.desks[i].key == 0, "a desk at the start");
+        expect(open_refusal(&room, i, key_of(i)) == 0, "the desk is opened");
+    }
+}
+
+/* 9 to 12 at each desk, each with the grounds that come after it; each bit of a key counts. */
+static void check_desk_refusals(void)
+{
+    max3420e_classroom room = distinct_room(), closed = max3420e_classroom_start();
+    for (unsigned number = MAX3420E_DESKS; number < 256; number++) {
+        expect(call_refusal(&room, number, 0) == MAX3420E_NO_DESK, "a call at no desk");
+        expect(open_refusal(&room, number, 0) == MAX3420E_NO_DESK, "opening no desk");
+        expect(close_refusal(&room, number) == MAX3420E_NO_DESK, "closing no desk");
+    }
+    for (unsigned i = 0; i < MAX3420E_DESKS; i++) {
+        unsigned other = (i + 1) % MAX3420E_DESKS;
+        expect(call_refusal(&closed, i, 0) == MAX3420E_DESK_STATE, "a call at a closed desk");
+        expect(close_refusal(&closed, i) == MAX3420E_DESK_STATE, "closing a closed desk");
+        expect(open_refusal(&room, i, 0) == MAX3420E_DESK_STATE, "opening an open desk");
+        expect(open_refusal(&closed, i, 0) == MAX3420E_BAD_KEY, "opening with key 0");
+        for (unsigned bit = 0; bit < 32; bit++)
+            expect(call_refusal(&room, i, key_of(i) ^ (uint32_t)1 << bit) == MAX3420E_WRONG_KEY, "a wrong key");
+        expect(call_refusal(&room, i, key_of(i)) == MAX3420E_NO_COMMAND, "the right key");
+        max3420e_classroom one = max3420e_close_desk(room, (uint8_t)i).classroom;
+        expect(open_refusal(&one, i, key_of(other)) == MAX3420E_BAD_KEY, "a key in use");
+        expect(open_refusal(&one, i, key_of(i)) == 0, "a key that was in use");
+        expect(close_refusal(&room, i) == 0, "closing a desk");
+    }
+}
+
+/* Each value of the flag: 1 is open; any other is not, and 0 alone is sound, without a key. */
+static void check_opened(void)
+{
+    for (unsigned value = 0; value < 256; value++) {
+        max3420e_classroom room = max3420e_classroom_start(), used = distinct_room();
+        room.desks[5].opened = (uint8_t)value, used.desks[5].opened = (uint8_t)value;
+        expect(call_refusal(&room, 5, 0) == (value == 1 ? MAX3420E_NO_COMMAND : MAX3420E_DESK_STATE), "a call by the flag");
+        expect(close_refusal(&used, 5) == (value == 1 ? 0 : MAX3420E_DESK_STATE), "closing by the flag");
+        expect(open_refusal(&room, 5, 9) == (value == 0 ? 0 : value == 1 ? MAX3420E_DESK_STATE : MAX3420E_UNSOUND),
+               "opening by the flag");
+        expect(open_refusal(&used, 5, 9) == (value == 1 ? MAX3420E_DESK_STATE : MAX3420E_UNSOUND), "opening a used desk");
+        expect(open_refusal(&used, 5, key_of(6)) == (value == 1 ? MAX3420E_DESK_STATE : MAX3420E_BAD_KEY), "12 before 1");
+        expect(call_refusal(&used, 6, key_of(6)) == MAX3420E_NO_COMMAND, "another desk by the flag");
+    }
+}
+
+/* A closed desk with one byte other than at power-on, sound or not, is not opened; other desks are. */
+static void check_closed_desk(void)
+{
+    for (size_t at = 0; at < sizeof(max3420e_desk); at++) {
+        max3420e_classroom room = max3420e_classroom_start();
+        ((uint8_t *)&room.desks[9])[at] ^= 1;
+        int gap = at > offsetof(max3420e_desk, opened) && at < offsetof(max3420e_desk, key);
+        unsigned wanted = at == offsetof(max3420e_desk, opened) ? MAX3420E_DESK_STATE : gap ? 0 : MAX3420E_UNSOUND;
+        expect(open_refusal(&room, 9, 77) == wanted, "opening a desk that is not at power-on");
+        expect(open_refusal(&room, 8, 77) == 0, "opening another desk");
+    }
+}
+
+/* 1 looks at the named desk: the chip's record, the firmware's; after 11. */
+static void check_unsound_desk(void)
+{
+    for (unsigned i = 0; i < 2; i++) {
+        max3420e_classroom room = distinct_room();
+        if (i == 0)
+            room.desks[2].board.chip.power.vbus = 2;
+        else
+            room.desks[2].board.firmware.wakeup = 2;
+        expect(call_refusal(&room, 2, key_of(3)) == MAX3420E_WRONG_KEY, "11 before 1");
+        expect(call_refusal(&room, 2, key_of(2)) == MAX3420E_UNSOUND, "a call at a desk that is not sound");
+        expect(call_refusal(&room, 3, key_of(3)) == MAX3420E_NO_COMMAND, "a call beside a desk that is not sound");
+        expect(close_refusal(&room, 2) == MAX3420E_UNSOUND, "closing a desk that is not sound");
+        expect(close_refusal(&room, 3) == 0, "closing a desk beside one that is not sound");
+        max3420e_desk_step_answer step = max3420e_desk_step(room, 2, key_of(2), reply, sizeof reply);
+        expect(step.refusal == MAX3420E_UNSOUND && step.kind == 0 && step.count == 0, "a step at a desk that is not sound");
+    }
+}
+
+/* A transfer, an event and a step at each desk: what the board's own give, and no other desk changes. */
+static void check_desk_calls(void)
+{
+    static const uint8_t write_epstalls[2] = {0x4A, 0x31}, wrong[65];
+    static const uint8_t request[8] = {0x80, 0x06, 0x00, 0x01, 0x00, 0x00, 0x40, 0x00};
+    static const max3420e_firmware plain;
+    for (unsigned i = 0; i < MAX3420E_DESKS; i++) {
+        uint8_t desk = (uint8_t)i;
+        max3420e_classroom room = distinct_room(), wanted = room;
+        wanted.desks[i].board.chip.registers.epstalls = 0x31;
+        max3420e_desk_answer answer = max3420e_desk_transfer(room, desk, key_of(i), write_epstalls, 2, reply, sizeof reply);
+        expect(answer.refusal == 0 && answer.pid == 0 && answer.count == 2 && answer.found == 0, "a transfer at a desk");
+        expect(answer.pin == MAX3420E_PIN_LOW, "the pin of a transfer at a desk");
+        expect_same_room(&answer.classroom, &wanted, "a transfer at a desk");
+
+        room.desks[i].board.chip.ep0.armed = 1, wanted = room;
+        max3420e_answer alone = max3420e_event(room.desks[i].board.chip, MAX3420E_IN_TOKEN, 0, 0x25, 0, 0, 0, 1, reply, 0,
+                                               reply, sizeof reply);
+        wanted.desks[i].board.chip = alone.chip;
+        answer = max3420e_desk_event(room, desk, key_of(i), MAX3420E_IN_TOKEN, 0, 0x25, 0, 0, 0, 1, reply, 0, reply,
+                                     sizeof reply);
+        expect(answer.refusal == 0 && answer.pid == MAX3420E_DATA1 && answer.count == 10, "IN at a desk");
+        expect(answer.pin == alone.pin, "the pin of IN at a desk");
+        expect(memcmp(reply, room.desks[i].board.chip.ep0.bytes, 10) == 0, "the packet of IN at a desk");
+        expect_same_room(&answer.classroom, &wanted, "IN at a desk");
+        answer = max3420e_desk_event(room, desk, key_of(i), MAX3420E_OUT_TOKEN, 0, 200, 1, 0, 0, 0, wrong, 65, reply, 3);
+        expect(answer.refusal == MAX3420E_OUT_PAYLOAD && answer.found == 65, "the length of an OUT payload at a desk");
+        wanted = room, wanted.desks[i].board.chip = max3420e_power_on(), wanted.desks[i].board.firmware = plain;
+        answer = max3420e_desk_event(room, desk, key_of(i), MAX3420E_POWER_ON, 0, 0, 0, 0, 0, 0, reply, 0, reply, 0);
+        expect_same_room(&answer.classroom, &wanted, "power-on at a desk");
+
+        memcpy(room.desks[i].board.chip.ep0.setup, request, sizeof request), room.desks[i].board.chip.ep0.setuppos = 0;
+        wanted = room;
+        max3420e_board_answer board = max3420e_board_step(room.desks[i].board.chip, room.desks[i].board.firmware, reply,
+                                                          sizeof reply);
+        wanted.desks[i].board.chip = board.chip, wanted.desks[i].board.firmware = board.firmware;
+        max3420e_desk_step_answer step = max3420e_desk_step(room, desk, key_of(i), reply, sizeof reply);
+        expect(step.refusal == 0 && step.kind == MAX3420E_KIND_DATA && step.count == 18, "a step at a desk");
+        expect(step.pin == board.pin && step.found == 0 && reply[0] == 18 && reply[1] == 1, "the descriptor at a desk");
+        expect_same_room(&step.classroom, &wanted, "a step at a desk");
+    }
+}
+
+/* What 9 to 11 refuse tells no pin, whatever the desk's chip does; what the board refuses does. */
+static void check_desk_pin(void)
+{
+    max3420e_classroom room = distinct_room();
+    const unsigned desks[] = {16, 4, 4, 4};
+    const uint32_t keys[] = {key_of(4), key_of(4), key_of(5), key_of(4)};
+    for (size_t i = 0; i < COUNT(desks); i++) {
+        room.desks[4].opened = i != 1;
+        unsigned wanted = i == 3 ? MAX3420E_PIN_LOW : MAX3420E_PIN_OPEN;
+        uint8_t desk = (uint8_t)desks[i];
+        expect(max3420e_desk_transfer(room, desk, keys[i], reply, 0, reply, 0).pin == wanted, "the pin, a transfer refused");
+        expect(max3420e_desk_event(room, desk, keys[i], 0, 0, 0, 0, 0, 0, 0, reply, 0, reply, 0).pin == wanted,
+               "the pin, an event refused");
+        expect(max3420e_desk_step(room, desk, keys[i], reply, 0).pin == wanted, "the pin, a step refused");
+    }
+}
+
 int main(void)
 {
     print_fields(chip_fields, COUNT(chip_fields));
@@ -311,6 +532,13 @@ int main(void)
     check_found();
     check_board();
     check_firmware();
+    check_start();
+    check_desk_refusals();
+    check_opened();
+    check_closed_desk();
+    check_unsound_desk();
+    check_desk_calls();
+    check_desk_pin();
     if (mismatches > 0)
         return 1;
     printf("layout: %u fields agree\n", (unsigned)(COUNT(chip_fields) + COUNT(other_fields)));

@@ -99,11 +99,23 @@ fn write_halts(chip: &mut Chip, stalls: u8, toggles: u8) {
     send_transfer(chip, &[0x52, chip.r(CLRTOGS) | toggles]);
 }
 
+/// A transfer of the board: refusal 1 looks at both records (decision 10).
+pub fn board_transfer(chip: Chip, firmware: Firmware, bytes: &[u8], reply: &mut [u8]) -> Answer {
+    if firmware.is_sound() {
+        transfer(chip, bytes, reply)
+    } else {
+        unsound(chip)
+    }
+}
+
+fn unsound(chip: Chip) -> Answer {
+    Answer { chip, refusal: 1, pid: 0, count: 0, pin: pin_level(&chip), found: 0 }
+}
+
 /// An event of the board: power-on and a bus reset start that is seen put the firmware's record back.
 pub fn board_event(chip: Chip, firmware: Firmware, what: Event, payload: &[u8], reply: &mut [u8]) -> BoardEventAnswer {
     if !firmware.is_sound() {
-        let answer = Answer { chip, refusal: 1, pid: 0, count: 0, pin: pin_level(&chip), found: 0 };
-        return BoardEventAnswer { answer, firmware };
+        return BoardEventAnswer { answer: unsound(chip), firmware };
     }
     let resets = what.code == POWER_ON || what.code == RESET_START && sees_bus(&chip);
     let answer = event(chip, what, payload, reply);

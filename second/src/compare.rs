@@ -75,7 +75,7 @@ pub struct Difference {
 }
 
 /// Bytes behind the reply buffer that are not lent, to see whether they are written.
-const GUARD: usize = 16;
+pub(crate) const GUARD: usize = 16;
 
 /// One model with its records and the reply buffer lent to it, `GUARD` bytes longer than what is lent.
 struct Side<'m, M: Other> {
@@ -136,9 +136,7 @@ impl<'m, M: Other> Side<'m, M> {
     fn poked(&mut self, mut chip: M::Chip, field: usize, value: u8) -> M::Chip {
         match field.checked_sub(FIELDS.len()) {
             None => self.model.poke(&mut chip, field, value),
-            Some(0) => self.firmware.configuration = value,
-            Some(1) => self.firmware.wakeup = value,
-            Some(_) => self.firmware.halted = value,
+            Some(field) => self.firmware.poke(field, value),
         }
         chip
     }
@@ -160,12 +158,12 @@ fn pattern(i: usize) -> u8 {
     (i as u8).wrapping_mul(29) ^ 0xA5
 }
 
-fn lend(reply: &mut Vec<u8>, length: usize) {
+pub(crate) fn lend(reply: &mut Vec<u8>, length: usize) {
     reply.clear();
     reply.extend((0..length).map(pattern));
 }
 
-fn is_written(reply: &[u8], from: usize) -> bool {
+pub(crate) fn is_written(reply: &[u8], from: usize) -> bool {
     reply.iter().enumerate().skip(from).any(|(i, byte)| *byte != pattern(i))
 }
 
@@ -196,7 +194,7 @@ pub fn compare<L: Other, R: Other>(left: &L, right: &R, calls: &[Call]) -> Optio
     None
 }
 
-fn head(reply: &[u8], count: u16) -> &[u8] {
+pub(crate) fn head(reply: &[u8], count: u16) -> &[u8] {
     &reply[..reply.len().min(count as usize)]
 }
 
@@ -205,18 +203,23 @@ fn first_difference(left: &[u8], right: &[u8]) -> Option<(usize, u8, u8)> {
     pairs.filter(|(_, (l, r))| l != r).map(|(i, (l, r))| (i, *l, *r)).next()
 }
 
-/// A short list that still differs: the prefix up to the difference, without the calls that are not needed. First long
-/// stretches are left out, then shorter ones; in the end no single call can be.
+/// A short list that still differs (`shorten`).
 pub fn shortest<L: Other, R: Other>(left: &L, right: &R, calls: &[Call]) -> Option<(Vec<Call>, Difference)> {
-    let mut difference = compare(left, right, calls)?;
-    let mut short = prefix(calls, &difference);
+    shorten(calls, |list| compare(left, right, list))
+}
+
+/// A short list that still differs: the prefix up to the difference, without the items that are not needed. First long
+/// stretches are left out, then shorter ones; in the end no single item can be.
+pub fn shorten<T: Clone>(list: &[T], differ: impl Fn(&[T]) -> Option<Difference>) -> Option<(Vec<T>, Difference)> {
+    let mut difference = differ(list)?;
+    let mut short = prefix(list, &difference);
     let mut stretch = short.len() / 2;
     while stretch > 0 {
         let (mut at, length) = (0, short.len());
         while at < short.len() {
             let end = short.len().min(at + stretch);
             let fewer = [&short[..at], &short[end..]].concat();
-            match compare(left, right, &fewer) {
+            match differ(&fewer) {
                 Some(still) => (short, difference) = (prefix(&fewer, &still), still),
                 None => at = end,
             }
@@ -228,7 +231,7 @@ pub fn shortest<L: Other, R: Other>(left: &L, right: &R, calls: &[Call]) -> Opti
     Some((short, difference))
 }
 
-/// The calls up to the one that differs.
-fn prefix(calls: &[Call], difference: &Difference) -> Vec<Call> {
-    calls[..calls.len().min(difference.at + 1)].to_vec()
+/// The items up to the one that differs.
+fn prefix<T: Clone>(list: &[T], difference: &Difference) -> Vec<T> {
+    list[..list.len().min(difference.at + 1)].to_vec()
 }

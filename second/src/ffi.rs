@@ -142,6 +142,62 @@ pub struct RequestAnswer {
     pub found: usize,
 }
 
+/// `max3420e_board`.
+#[repr(C)]
+#[derive(Clone, Copy, Debug, PartialEq, Eq)]
+pub struct Board {
+    pub chip: Chip,
+    pub firmware: Firmware,
+}
+
+/// `max3420e_desk`.
+#[repr(C)]
+#[derive(Clone, Copy, Debug, PartialEq, Eq)]
+pub struct Desk {
+    pub board: Board,
+    pub opened: u8,
+    pub key: u32,
+}
+
+/// `max3420e_classroom`.
+#[repr(C)]
+#[derive(Clone, Copy, Debug, PartialEq, Eq)]
+pub struct Classroom {
+    pub desks: [Desk; 16],
+}
+
+/// `max3420e_teacher_answer`.
+#[repr(C)]
+#[derive(Clone, Copy, Debug, PartialEq, Eq)]
+pub struct TeacherAnswer {
+    pub classroom: Classroom,
+    pub refusal: u8,
+}
+
+/// `max3420e_desk_answer`.
+#[repr(C)]
+#[derive(Clone, Copy, Debug, PartialEq, Eq)]
+pub struct DeskAnswer {
+    pub classroom: Classroom,
+    pub refusal: u8,
+    pub pid: u8,
+    pub count: u16,
+    pub pin: u8,
+    pub found: usize,
+}
+
+/// `max3420e_desk_step_answer`.
+#[repr(C)]
+#[derive(Clone, Copy, Debug, PartialEq, Eq)]
+pub struct DeskStepAnswer {
+    pub classroom: Classroom,
+    pub refusal: u8,
+    pub kind: u8,
+    pub count: u16,
+    pub pin: u8,
+    pub found: usize,
+}
+
 // The header's offsets, as tests/layout.c prints them.
 const _: () = {
     use std::mem::offset_of;
@@ -154,6 +210,13 @@ const _: () = {
     assert!(offset_of!(Answer, found) == 440 && offset_of!(BoardAnswer, found) == 440);
     assert!(size_of::<RequestAnswer>() == 16 && offset_of!(RequestAnswer, count) == 6);
     assert!(offset_of!(RequestAnswer, found) == 8);
+    assert!(size_of::<Board>() == 433 && offset_of!(Board, firmware) == 430);
+    assert!(size_of::<Desk>() == 440 && offset_of!(Desk, opened) == 433 && offset_of!(Desk, key) == 436);
+    assert!(size_of::<Classroom>() == 7040 && size_of::<TeacherAnswer>() == 7044);
+    assert!(size_of::<DeskAnswer>() == 7056 && size_of::<DeskStepAnswer>() == 7056);
+    assert!(offset_of!(TeacherAnswer, refusal) == 7040 && offset_of!(DeskAnswer, refusal) == 7040);
+    assert!(offset_of!(DeskAnswer, count) == 7042 && offset_of!(DeskAnswer, pin) == 7044);
+    assert!(offset_of!(DeskAnswer, found) == 7048 && offset_of!(DeskStepAnswer, found) == 7048);
 };
 
 #[cfg(capi)]
@@ -161,11 +224,11 @@ pub use calls::*;
 
 #[cfg(capi)]
 mod calls {
-    use super::{Answer, BoardAnswer, Chip, Firmware, RequestAnswer};
+    use super::{Answer, BoardAnswer, Chip, Classroom, DeskAnswer, DeskStepAnswer, Firmware, RequestAnswer, TeacherAnswer};
     use crate::bus::Event;
 
     // SAFETY: the declarations of include/max3420e.h, whose layout tests/layout.c checks against the library.
-    // `safe`: it takes nothing and returns plain bytes.
+    // `safe`: it takes no pointer, and any record is allowed.
     unsafe extern "C" {
         safe fn max3420e_power_on() -> Chip;
         fn max3420e_transfer(chip: Chip, bytes: *const u8, length: usize, reply: *mut u8, room: usize) -> Answer;
@@ -191,6 +254,35 @@ mod calls {
             reply: *mut u8,
             room: usize,
         ) -> RequestAnswer;
+        safe fn max3420e_classroom_start() -> Classroom;
+        safe fn max3420e_open_desk(classroom: Classroom, desk: u8, key: u32) -> TeacherAnswer;
+        safe fn max3420e_close_desk(classroom: Classroom, desk: u8) -> TeacherAnswer;
+        fn max3420e_desk_transfer(
+            classroom: Classroom,
+            desk: u8,
+            key: u32,
+            bytes: *const u8,
+            length: usize,
+            reply: *mut u8,
+            room: usize,
+        ) -> DeskAnswer;
+        fn max3420e_desk_event(
+            classroom: Classroom,
+            desk: u8,
+            key: u32,
+            code: u8,
+            pins: u8,
+            address: u8,
+            endpoint: u8,
+            damaged: u8,
+            data1: u8,
+            acknowledged: u8,
+            payload: *const u8,
+            length: usize,
+            reply: *mut u8,
+            room: usize,
+        ) -> DeskAnswer;
+        fn max3420e_desk_step(classroom: Classroom, desk: u8, key: u32, reply: *mut u8, room: usize) -> DeskStepAnswer;
     }
 
     #[inline]
@@ -224,5 +316,59 @@ mod calls {
     pub fn firmware_answer(firmware: Firmware, setup: &[u8], reply: &mut [u8]) -> RequestAnswer {
         // SAFETY: as for `transfer`.
         unsafe { max3420e_firmware_answer(firmware, setup.as_ptr(), setup.len(), reply.as_mut_ptr(), reply.len()) }
+    }
+
+    #[inline]
+    pub fn classroom_start() -> Classroom {
+        max3420e_classroom_start()
+    }
+
+    #[inline]
+    pub fn open_desk(room: Classroom, desk: u8, key: u32) -> TeacherAnswer {
+        max3420e_open_desk(room, desk, key)
+    }
+
+    #[inline]
+    pub fn close_desk(room: Classroom, desk: u8) -> TeacherAnswer {
+        max3420e_close_desk(room, desk)
+    }
+
+    #[inline]
+    pub fn desk_transfer(room: Classroom, desk: u8, key: u32, bytes: &[u8], reply: &mut [u8]) -> DeskAnswer {
+        let (to, lent) = (reply.as_mut_ptr(), reply.len());
+        // SAFETY: as for `transfer`.
+        unsafe { max3420e_desk_transfer(room, desk, key, bytes.as_ptr(), bytes.len(), to, lent) }
+    }
+
+    #[inline]
+    pub fn desk_event(room: Classroom, desk: u8, key: u32, what: &Event, payload: &[u8], reply: &mut [u8]) -> DeskAnswer {
+        let Event { code, pins, address, endpoint, damaged, data1, acknowledged } = *what;
+        let (bytes, length) = (payload.as_ptr(), payload.len());
+        let (to, lent) = (reply.as_mut_ptr(), reply.len());
+        // SAFETY: as for `transfer`.
+        unsafe {
+            max3420e_desk_event(
+                room,
+                desk,
+                key,
+                code,
+                pins,
+                address,
+                endpoint,
+                damaged,
+                data1,
+                acknowledged,
+                bytes,
+                length,
+                to,
+                lent,
+            )
+        }
+    }
+
+    #[inline]
+    pub fn desk_step(room: Classroom, desk: u8, key: u32, reply: &mut [u8]) -> DeskStepAnswer {
+        // SAFETY: as for `transfer`.
+        unsafe { max3420e_desk_step(room, desk, key, reply.as_mut_ptr(), reply.len()) }
     }
 }

@@ -18,6 +18,12 @@ impl Firmware {
         Firmware::default()
     }
 
+    /// Sets a field to any byte: 0 configuration, 1 wakeup, 2 halted.
+    pub fn poke(&mut self, field: usize, value: u8) {
+        let Firmware { configuration, wakeup, halted } = self;
+        *[configuration, wakeup, halted][field] = value;
+    }
+
     /// Sound (decision 30): configuration 0 or 1, a halt only in configuration 1; flags are flags.
     pub fn is_sound(&self) -> bool {
         self.configuration <= 1 && self.wakeup <= 1 && self.halted <= self.configuration

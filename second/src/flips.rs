@@ -1,18 +1,21 @@
-//! Single rules turned round, to see whether a comparison notices: bit i of a set turns rule `ALL[i]` round.
+//! Single rules turned round, to see whether a comparison notices: bit i of a set turns the rule of flip number i round.
 //! The set is 0 unless a test sets it by `with_flips`; then the model is the documented one.
 
 use std::cell::Cell;
 
 macro_rules! flips {
-    ($($name:ident = $text:expr,)*) => {
+    ($($group:ident { $($name:ident = $text:expr,)* })*) => {
         #[derive(Clone, Copy, Debug, PartialEq, Eq)]
-        pub enum Flip { $($name,)* }
-        /// Every flip with what the flipped model does.
-        pub const ALL: &[(Flip, &str)] = &[$((Flip::$name, $text),)*];
+        pub enum Flip { $($($name,)*)* }
+        $(
+            /// The group's flips, each with what the flipped model does.
+            pub const $group: &[(Flip, &str)] = &[$((Flip::$name, $text),)*];
+        )*
     };
 }
 
 flips! {
+BOARD {
     ToggleWhenSent = "an IN toggle flips when sent, not when acknowledged",
     R11KeepsIn2bav = "R11: a 1 in IN2BAVIRQ does nothing",
     R11KeepsIn3bav = "R11: a 1 in IN3BAVIRQ does nothing",
@@ -88,8 +91,38 @@ flips! {
     FoundIsRoom = "the length found is that of the lent buffer",
     FoundByte = "the length found is cut to a byte",
 }
+CLASSROOM {
+    KeyLow16 = "a key is compared in its low 16 bits",
+    ClosedAnswers = "a pupil's call is not refused for a closed desk",
+    OpenTwice = "an open desk is opened again",
+    CloseTwice = "a closed desk is closed again",
+    KeyInUse = "a key in use at another open desk is accepted",
+    KeyOfClosed = "the key of a desk that is not open is in use",
+    KeyZero = "key 0 is accepted on opening",
+    CloseKeepsChip = "closing keeps the chip's record",
+    CloseKeepsFirmware = "closing keeps the firmware's record",
+    CloseKeepsKey = "closing keeps the key",
+    CloseKeepsOpen = "closing leaves the desk open",
+    NextDesk = "a pupil's call lands on the next desk",
+    Desk16 = "desk 16 is desk 0",
+    KeyBeforeState = "11 is looked at before 10",
+    BadKeyBeforeState = "12 is looked at before 10",
+    UnsoundBeforeKey = "1 is looked at before 11",
+    UnsoundBeforeBadKey = "1 is looked at before 12",
+    OpeningCloses = "opening closes the desk before",
+    OpenUnsound = "opening does not look at the desk's records",
+    CloseUnsound = "closing does not look at the desk's records",
+    ClosedAsOpen = "a closed desk is sound with any sound records",
+    ClosedKeySound = "a closed desk is sound with any key",
+    OpenedNot0 = "a desk is open where its flag is not 0",
+    EveryDeskSound = "refusal 1 looks at every desk",
+    PowerOnCloses = "power-on closes the desk",
+    ChipEvent = "an event at a desk leaves the firmware's record",
+    RefusedPin = "a call that 9 to 11 refuse tells the desk's pin",
+}
+}
 
-const _: () = assert!(ALL.len() <= 128);
+const _: () = assert!(BOARD.len() + CLASSROOM.len() <= 128);
 
 thread_local! {
     static FLIPS: Cell<u128> = const { Cell::new(0) };

@@ -1,8 +1,9 @@
 //! The second model of the MAX3420E, written from the documents only (01-scope.md, the maker's guide 000, DECISIONS.md).
 //! "Document 01" in comments is 01-scope.md; "decision N" is an entry of docs/DECISIONS.md.
 //!
-//! The model takes records by value and hands them back: `transfer`, `event`, `firmware_answer`, `board_step`, `int_pin`.
-//! `runs` makes lists of calls, `script` prints them for the console, `compare` plays them on this model and another.
+//! The model takes records by value and hands them back: `transfer`, `event`, `firmware_answer`, `board_step`, `int_pin`;
+//! `classroom` has sixteen boards. `runs` makes lists of calls, `script` prints them for the console, `compare` plays them
+//! on this model and another, `compare_classes` the classroom's.
 //! The other one is the proved library where it is linked (build.rs, `ffi`, `library`).
 
 #![deny(unsafe_code)]
@@ -10,7 +11,9 @@
 mod board;
 pub mod bus;
 pub mod chip;
+pub mod classroom;
 pub mod compare;
+pub mod compare_classes;
 mod control;
 mod descriptors;
 pub mod ffi;
@@ -18,6 +21,7 @@ pub mod fields;
 mod firmware;
 pub mod flips;
 pub mod library;
+pub mod measure;
 pub mod noticed;
 mod pin;
 mod registers;
@@ -26,7 +30,7 @@ pub mod runs;
 pub mod script;
 mod spi;
 
-pub use board::{board_event, board_step, BoardAnswer, BoardEventAnswer};
+pub use board::{board_event, board_step, board_transfer, BoardAnswer, BoardEventAnswer};
 pub use bus::{event, sees_bus, Event};
 pub use chip::{Answer, Chip, Ring};
 pub use fields::observe;

@@ -1,7 +1,9 @@
-//! The proved library as a model to compare with: its fields by the names of `fields::FIELDS`, its `observe`.
+//! The proved library as a model to compare with: its fields by the names of `fields::FIELDS`, its `observe`, of a chip and
+//! of a desk.
 
-use crate::ffi::{Chip, Ring};
+use crate::ffi::{Chip, Desk, Firmware, Ring};
 use crate::fields::FIELDS;
+use crate::runs::{KEY, OPENED};
 
 /// The place of a field in the library's record, by its name in `fields::FIELDS`.
 pub fn place<'c>(chip: &'c mut Chip, name: &str) -> &'c mut u8 {
@@ -52,6 +54,26 @@ pub fn place<'c>(chip: &'c mut Chip, name: &str) -> &'c mut u8 {
 /// Sets the field of `fields::FIELDS` with this number.
 pub fn poke(chip: &mut Chip, field: usize, value: u8) {
     *place(chip, FIELDS[field].0) = value;
+}
+
+/// Sets the field of a desk with this number (`runs::Order`).
+pub fn poke_desk(desk: &mut Desk, field: usize, value: u32) {
+    let Firmware { configuration, wakeup, halted } = &mut desk.board.firmware;
+    match field {
+        KEY => desk.key = value,
+        OPENED => desk.opened = value as u8,
+        _ if field < FIELDS.len() => poke(&mut desk.board.chip, field, value as u8),
+        _ => *[configuration, wakeup, halted][field - FIELDS.len()] = value as u8,
+    }
+}
+
+/// The list of `OtherClassroom::observe`.
+pub fn observe_desk(desk: &Desk) -> Vec<u8> {
+    let Firmware { configuration, wakeup, halted } = desk.board.firmware;
+    let mut list = observe(&desk.board.chip);
+    list.extend([configuration, wakeup, halted, desk.opened]);
+    list.extend(desk.key.to_le_bytes());
+    list
 }
 
 /// The list of `fields::observe`, from the library's record.
@@ -114,9 +136,11 @@ pub use linked::Library;
 
 #[cfg(capi)]
 mod linked {
-    use super::{observe, poke};
+    use super::{observe, observe_desk, poke, poke_desk};
     use crate::bus::Event;
     use crate::compare::{Given, Other};
+    use crate::compare_classes::OtherClassroom;
+    use crate::runs::Call;
     use crate::{ffi, Firmware};
 
     /// The linked library.
@@ -154,6 +178,50 @@ mod linked {
 
         fn observe(&self, chip: &ffi::Chip) -> Vec<u8> {
             observe(chip)
+        }
+    }
+
+    fn given(answer: ffi::DeskAnswer) -> (ffi::Classroom, Given) {
+        let ffi::DeskAnswer { classroom, refusal, pid, count, pin, found } = answer;
+        (classroom, Given { refusal, pid, count, pin, found })
+    }
+
+    impl OtherClassroom for Library {
+        type Classroom = ffi::Classroom;
+
+        fn start(&self) -> ffi::Classroom {
+            ffi::classroom_start()
+        }
+
+        fn open(&self, room: ffi::Classroom, desk: u8, key: u32) -> (ffi::Classroom, u8) {
+            let ffi::TeacherAnswer { classroom, refusal } = ffi::open_desk(room, desk, key);
+            (classroom, refusal)
+        }
+
+        fn close(&self, room: ffi::Classroom, desk: u8) -> (ffi::Classroom, u8) {
+            let ffi::TeacherAnswer { classroom, refusal } = ffi::close_desk(room, desk);
+            (classroom, refusal)
+        }
+
+        fn call(&self, room: ffi::Classroom, desk: u8, key: u32, call: &Call, reply: &mut [u8]) -> (ffi::Classroom, Given) {
+            match call {
+                Call::Transfer { bytes, .. } => given(ffi::desk_transfer(room, desk, key, bytes, reply)),
+                Call::Event { event, payload, .. } => given(ffi::desk_event(room, desk, key, event, payload, reply)),
+                Call::Step { .. } => {
+                    let answer = ffi::desk_step(room, desk, key, reply);
+                    let ffi::DeskStepAnswer { classroom, refusal, kind, count, pin, found } = answer;
+                    (classroom, Given { refusal, pid: kind, count, pin, found })
+                }
+                Call::Poke { .. } => panic!("a poke is no call"),
+            }
+        }
+
+        fn poke(&self, room: &mut ffi::Classroom, desk: u8, field: usize, value: u32) {
+            poke_desk(&mut room.desks[desk as usize], field, value);
+        }
+
+        fn observe(&self, room: &ffi::Classroom, desk: usize) -> Vec<u8> {
+            observe_desk(&room.desks[desk])
         }
     }
 }

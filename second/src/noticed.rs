@@ -1,7 +1,8 @@
-//! How soon each flip of this model (`flips::ALL`) is noticed against a reference, by each kind of runs.
+//! How soon each flip of this model (`flips`) is noticed against a reference, by each kind of runs.
 
 use crate::compare::{compare, Other, Second};
-use crate::flips::ALL;
+use crate::compare_classes::{compare_classes, OtherClassroom};
+use crate::flips::{BOARD, CLASSROOM};
 use crate::runs::*;
 
 /// How many calls of a stream of lists are played until the models differ.
@@ -33,14 +34,35 @@ pub fn unnoticed_flips<R: Other>(reference: &R) -> Vec<&'static str> {
     let show = |n: Option<usize>| n.map_or("-".to_string(), |n| n.to_string());
     let mut missed = Vec::new();
     println!("{:<60}{:>8}{:>8}{:>8}{:>8}", "calls until noticed by", "built", "walks", "pokes", "tables");
-    for (flip, (_, text)) in ALL.iter().enumerate() {
-        let flipped = Second { flips: 1 << flip };
+    for (flip, text) in BOARD {
+        let flipped = Second { flips: 1 << *flip as u32 };
         let built = calls_until_noticed(reference, &flipped, from_power_on());
         let walks = calls_until_noticed(reference, &flipped, seeded(|rng| walk(rng, 400), 200));
         let pokes = calls_until_noticed(reference, &flipped, seeded(sound_record, 2000));
         let tables = calls_until_noticed(reference, &flipped, whole_tables());
         println!("{text:<60}{:>8}{:>8}{:>8}{:>8}", show(built), show(walks), show(pokes), show(tables));
         if built.is_none() {
+            missed.push(*text);
+        }
+    }
+    missed
+}
+
+/// Prints the table of the classroom's flips; those that the classes do not notice.
+pub fn unnoticed_class_flips<R: OtherClassroom>(reference: &R) -> Vec<&'static str> {
+    let mut missed = Vec::new();
+    println!("{:<60}{:>8}", "orders until noticed by", "classes");
+    for (flip, text) in CLASSROOM {
+        let flipped = Second { flips: 1 << *flip as u32 };
+        let mut orders = 0;
+        let noticed = (0..4000).map(class_list).any(|list| {
+            let difference = compare_classes(reference, &flipped, &list);
+            orders += difference.as_ref().map_or(list.len(), |d| d.at + 1);
+            difference.is_some()
+        });
+        if noticed {
+            println!("{text:<60}{orders:>8}");
+        } else {
             missed.push(*text);
         }
     }

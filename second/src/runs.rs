@@ -1,6 +1,8 @@
-//! Lists of calls for both models: random walks, built states, requests, refusals, records by pokes, whole tables.
+//! Lists of calls for both models: random walks, built states, requests, refusals, records by pokes, whole tables; and of
+//! orders to a classroom.
 
 mod built;
+mod classes;
 mod enumeration;
 mod parts;
 mod records;
@@ -11,6 +13,7 @@ mod tables;
 mod walk;
 
 pub use built::built;
+pub use classes::{class, class_list, same_at_one_desk, unsound_class, Order, KEY, OPENED};
 pub use enumeration::{enumeration, request_pairs};
 pub use parts::*;
 pub use records::{sound_record, unsound_record};

@@ -10,8 +10,9 @@ fn skipped_without_the_library() {
 #[cfg(capi)]
 mod linked {
     use second::compare::{compare, shortest, Second};
+    use second::compare_classes::{compare_classes, shortest_class, told_at};
     use second::library::Library;
-    use second::noticed::unnoticed_flips;
+    use second::noticed::{unnoticed_class_flips, unnoticed_flips};
     use second::runs::*;
     use second::script::script;
     use second::{ffi, firmware_answer, Endpoints, Firmware, FirmwareAnswer};
@@ -135,6 +136,40 @@ mod linked {
                 assert_eq!((theirs, left), (ours, right), "setup bytes {:02X?}, room {room}", &setup[..length]);
             }
         }
+    }
+
+    /// Classes of random orders, also to desks that are not sound: every answer, pin and buffer, and all sixteen desks.
+    #[test]
+    fn classes() {
+        let (mut played, mut lists) = (0, 0);
+        while played < 100_000 {
+            let seed = seed().wrapping_add(lists);
+            let orders = class_list(seed);
+            if compare_classes(&Library, &RIGHT, &orders).is_some() {
+                let (short, difference) = shortest_class(&Library, &RIGHT, &orders).expect("it differs");
+                panic!("class, seed {seed}: the last order differs in {}\n{short:#?}", difference.what);
+            }
+            played += orders.len();
+            lists += 1;
+        }
+        println!("classes: {played} orders in {lists} lists agree");
+    }
+
+    /// What a desk is answered is the same whatever is sent to the others.
+    #[test]
+    fn other_desks_do_not_matter() {
+        for seed in seed()..seed() + 1000 {
+            let (desk, [left, right]) = same_at_one_desk(&mut Rng::new(seed));
+            let told = told_at(&Library, &left, desk);
+            assert!(left != right && told.0[0].0.refusal == 0, "seed {seed}: two classes, the desk opened");
+            assert_eq!(told, told_at(&Library, &right, desk), "seed {seed}, desk {desk}");
+        }
+    }
+
+    #[test]
+    fn every_flip_of_the_classroom_is_noticed() {
+        let missed = unnoticed_class_flips(&Library);
+        assert!(missed.is_empty(), "not noticed by the classes: {missed:?}");
     }
 
     /// The library is the reference: each flip of the second model is a difference from it.

@@ -30,7 +30,7 @@ checked-kept : (c : Chip) (k : Call) (buffer : List ℕ) (n : ℕ) (v : Checked)
 checked-kept c k buffer n Accepted e = absurd (omega (arith, e))
 checked-kept c k buffer n (Refused r) e = (refl, refl)
 
-call-kept : (c : Chip) (k : Call) (buffer : List ℕ) (n : ℕ) → checkedNumber (checked max3420e c k) ≡ suc n
+pub call-kept : (c : Chip) (k : Call) (buffer : List ℕ) (n : ℕ) → checkedNumber (checked max3420e c k) ≡ suc n
     → (callTo max3420e c k ≡ c) × (bufferAfter (answerOf max3420e c k) buffer ≡ buffer)
 unfolding callTo answerOf
 call-kept c k buffer n e = checked-kept c k buffer n (checked max3420e c k) e
@@ -39,7 +39,7 @@ checked-tells : (c : Chip) (k : Call) (v : Checked) → transferTells (transferR
 checked-tells c k Accepted = refl
 checked-tells c k (Refused r) = refl
 
-transfer-tells : (c : Chip) (k : Call) → transferTells (transferReplyOf (answerOf max3420e c k)) ≡ checked max3420e c k
+pub transfer-tells : (c : Chip) (k : Call) → transferTells (transferReplyOf (answerOf max3420e c k)) ≡ checked max3420e c k
 unfolding answerOf
 transfer-tells c k = checked-tells c k (checked max3420e c k)
 
@@ -62,7 +62,7 @@ event-given c e vs buffer n h =
 
 -- ---- the board step
 
-step-kept : (b : Board) (buffer : List ℕ) (n : ℕ) (v : Checked) → checkedNumber v ≡ suc n
+pub step-kept : (b : Board) (buffer : List ℕ) (n : ℕ) (v : Checked) → checkedNumber v ≡ suc n
     → (runTo max3420e (b .chip) (checkedCalls b v) ≡ b .chip) × (stepFirmware b v ≡ b .firmware) × (stepBuffer b v buffer ≡ buffer)
 unfolding runTo
 step-kept b buffer n Accepted e = absurd (omega (arith, e))

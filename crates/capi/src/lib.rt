@@ -24,6 +24,31 @@ ghost use Rattle.board.specs.Board.{boardStep, stepChecked, stepBuffer};
 ghost use Rattle.flat.specs.Answer.{flatTransfer, flatEvent, flatStep, flatRequest};
 ghost use Rattle.capi.specs.Arguments.{eventOf};
 
+// A mark that is not 0 is yes.
+pub fn event_of(
+    code: u8,
+    pins: u8,
+    address: u8,
+    endpoint: u8,
+    damaged: u8,
+    data1: u8,
+    acknowledged: u8,
+) -> Event
+    ensures { λ r. ⌜ r ≡ eventOf code pins address endpoint damaged data1 acknowledged ⌝ }
+{
+    Event {
+        code,
+        pins,
+        address,
+        endpoint: EndpointNumber(endpoint),
+        damaged: damaged != 0,
+        data1: data1 != 0,
+        acknowledged: acknowledged != 0,
+    }
+}
+
+// ---- a chip
+
 #[no_mangle]
 pub extern "C" fn max3420e_power_on() -> Chip
     ensures { λ r. ⌜ r ≡ powerOnChip ⌝ }
@@ -58,17 +83,11 @@ pub extern "C" fn max3420e_event(
         × (now (reply .exit) ≡ eventBuffer chip (eventOf code pins address endpoint damaged data1 acknowledged)
         (now (payload .entry)) (now (reply .entry))) ⌝ }
 {
-    let event = Event {
-        code,
-        pins,
-        address,
-        endpoint: EndpointNumber(endpoint),
-        damaged: damaged != 0,
-        data1: data1 != 0,
-        acknowledged: acknowledged != 0,
-    };
+    let event = event_of(code, pins, address, endpoint, damaged, data1, acknowledged);
     flat_event(bus::event(chip, event, payload, reply))
 }
+
+// ---- a chip with the board's own firmware, and that firmware alone
 
 #[no_mangle]
 pub extern "C" fn max3420e_board_step(

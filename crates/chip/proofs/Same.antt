@@ -42,25 +42,26 @@ same-each (x ∷ xs) (y ∷ ys) e =
 
 -- ---- parts: each is read back from its buffers and its numbers
 
+-- two buffers and the numbers beside them
+two-buffers : (ws xs ys zs ms ns : List ℕ) → clauses (sameNumbers ws xs ∷ sameNumbers ys zs ∷ sameEach ms ns) ≡ true
+    → (ws ≡ xs) × (ys ≡ zs) × (ms ≡ ns)
+two-buffers ws xs ys zs ms ns e =
+    let first = apart (sameNumbers ws xs) (sameNumbers ys zs ∷ sameEach ms ns) e in
+    let second = apart (sameNumbers ys zs) (sameEach ms ns) (first .1) in
+    (same-numbers ws xs (first .0), same-numbers ys zs (second .0), same-each ms ns (second .1))
+
 same-ring : (a b : Ring) → sameRing a b ≡ true → a ≡ b
 same-ring a b e =
-    let first = apart (sameNumbers (a .bytes) (b .bytes)) (sameNumbers (a .counts) (b .counts) ∷ sameEach (ringNumbers a) (ringNumbers b)) e in
-    let second = apart (sameNumbers (a .counts) (b .counts)) (sameEach (ringNumbers a) (ringNumbers b)) (first .1) in
-    let bytes = same-numbers (a .bytes) (b .bytes) (first .0) in
-    let counts = same-numbers (a .counts) (b .counts) (second .0) in
-    let numbers = same-each (ringNumbers a) (ringNumbers b) (second .1) in
-    λ i. record { bytes = bytes i; counts = counts i; oldest = getD (numbers i) 0 0; waiting = getD (numbers i) 1 0 }
+    let same = two-buffers (a .bytes) (b .bytes) (a .counts) (b .counts) (ringNumbers a) (ringNumbers b) e in
+    λ i. record { bytes = same .0 i; counts = same .1 i; oldest = getD (same .2 i) 0 0; waiting = getD (same .2 i) 1 0 }
 
 same-ep0 : (a b : Endpoint0) → sameEp0 a b ≡ true → a ≡ b
 same-ep0 a b e =
-    let first = apart (sameNumbers (a .bytes) (b .bytes)) (sameNumbers (a .setup) (b .setup) ∷ sameEach (ep0Numbers a) (ep0Numbers b)) e in
-    let second = apart (sameNumbers (a .setup) (b .setup)) (sameEach (ep0Numbers a) (ep0Numbers b)) (first .1) in
-    let bytes = same-numbers (a .bytes) (b .bytes) (first .0) in
-    let setup = same-numbers (a .setup) (b .setup) (second .0) in
-    let numbers = same-each (ep0Numbers a) (ep0Numbers b) (second .1) in
+    let same = two-buffers (a .bytes) (b .bytes) (a .setup) (b .setup) (ep0Numbers a) (ep0Numbers b) e in
+    let numbers = same .2 in
     λ i. record {
-      bytes = bytes i;
-      setup = setup i;
+      bytes = same .0 i;
+      setup = same .1 i;
       count = getD (numbers i) 0 0;
       armed = getD (numbers i) 1 0;
       readpos = getD (numbers i) 2 0;

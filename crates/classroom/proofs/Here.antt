@@ -11,10 +11,13 @@ use Rattle.refusal.proofs.Check.{accepted-none}
 use Rattle.classroom_record.specs.declared.DeskNumber.{DeskNumber}
 use Rattle.classroom_record.specs.declared.Classroom.{Classroom}
 use Rattle.classroom_record.specs.Record.{isDesk, deskAt, keyInUse}
-use Rattle.classroom.specs.Calls.{openingGrounds, closingGrounds, callingGrounds, openingChecked, closingChecked, callingChecked}
+use Rattle.classroom.specs.Calls.{openingGrounds, openGrounds, closingGrounds, callingGrounds, openingChecked, openChecked, closingChecked, callingChecked}
 
 pub opening-here : (room : Classroom) (n : DeskNumber) (key : ℕ) → openingChecked room n key ≡ Accepted → isDesk n ≡ true
 opening-here room n key e = not-false (isDesk n) (accepted-none (openingGrounds n (keyInUse room key) (deskAt room n) key) e zero)
+
+pub open-here : (room : Classroom) (n : DeskNumber) → openChecked room n ≡ Accepted → isDesk n ≡ true
+open-here room n e = not-false (isDesk n) (accepted-none (openGrounds n (deskAt room n)) e zero)
 
 pub closing-here : (room : Classroom) (n : DeskNumber) → closingChecked room n ≡ Accepted → isDesk n ≡ true
 closing-here room n e = not-false (isDesk n) (accepted-none (closingGrounds n (deskAt room n)) e zero)

@@ -23,6 +23,7 @@ use Rattle.classroom_record.specs.declared.DeskNumber.{DeskNumber}
 use Rattle.classroom_record.specs.declared.Classroom.{Classroom}
 use Rattle.classroom_record.specs.Record.{deskAt, keyInUse}
 use Rattle.classroom.specs.Calls.{openingGrounds, closingGrounds, callingGrounds, openingChecked, closingChecked, callingChecked, boardAt}
+use Rattle.classroom.proofs.Append.{thenFound, check-append}
 
 -- ---- the teacher's calls
 
@@ -70,22 +71,8 @@ board-found b (onChip k) = found-by (soundChip (b .chip)) (soundFirmware (b .fir
 board-found b (steps lent) = refl
 
 -- a call that the classroom accepts is refused as the board refuses it
-abbrev pub thenFound : Checked → Checked → Checked
-thenFound Accepted v = v
-thenFound (Refused r) v = Refused r
-
 abbrev pub pupilChecked : Classroom → DeskNumber → ℕ → BoardCall → Checked
 pupilChecked room n key k = thenFound (callingChecked room n key) (boardFound (boardAt room n) k)
-
--- one ground more
-one-more : (t : Bool) (r : Refusal) (gs hs : List (Bool × Refusal)) → thenFound (check gs) (check hs) ≡ check (gs ++ hs)
-    → thenFound (check ((t, r) ∷ gs)) (check hs) ≡ check ((t, r) ∷ gs ++ hs)
-one-more true r gs hs e = refl
-one-more false r gs hs e = e
-
-check-append : (gs hs : List (Bool × Refusal)) → thenFound (check gs) (check hs) ≡ check (gs ++ hs)
-check-append [] hs = refl
-check-append (g ∷ gs) hs = one-more (g .0) (g .1) gs hs (check-append gs hs)
 
 pub pupil-check : (room : Classroom) (n : DeskNumber) (key : ℕ) (k : BoardCall)
     → pupilChecked room n key k ≡ check (pupilGrounds n (deskAt room n) key k)

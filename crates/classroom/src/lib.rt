@@ -16,7 +16,7 @@ ghost use mathlib.Core.Bool.{true};
 ghost use lib.ListN.{length};
 ghost use Rattle.model.specs.Call.{Call};
 ghost use Rattle.classroom_record.specs.Record.{isDesk, deskAt, setDesk};
-ghost use Rattle.classroom.specs.Calls.{openingChecked, closingChecked, callingChecked, openedDesk, setBoard, openAnswer, closeAnswer};
+ghost use Rattle.classroom.specs.Calls.{openingChecked, openChecked, closingChecked, callingChecked, openedDesk, setBoard, openAnswer, closeAnswer};
 ghost use Rattle.classroom.specs.Calls.{deskTransfer, transferLent, deskEvent, eventLent, deskStep, stepLent};
 
 // What the teacher's call hands back.
@@ -66,9 +66,9 @@ fn check_opening(room: Classroom, number: DeskNumber, key: u32) -> Checked
     Checked::Accepted
 }
 
-// 9, 10, 1
-fn check_closing(room: Classroom, number: DeskNumber) -> Checked
-    ensures { λ r. ⌜ r ≡ closingChecked room number ⌝ }
+// 9, 10: the desk must be open
+fn check_open(room: Classroom, number: DeskNumber) -> Checked
+    ensures { λ r. ⌜ r ≡ openChecked room number ⌝ }
 {
     if !number.exists() {
         return Checked::Refused(Refusal::NoDesk);
@@ -76,28 +76,42 @@ fn check_closing(room: Classroom, number: DeskNumber) -> Checked
     let desk = room.desk_at(number);
     if desk.opened != 1 {
         return Checked::Refused(Refusal::DeskState);
-    }
-    if !desk.is_sound() {
-        return Checked::Refused(Refusal::Unsound);
     }
     Checked::Accepted
 }
 
-// 9, 10, 11. The others are the board's.
+// and 1
+fn check_closing(room: Classroom, number: DeskNumber) -> Checked
+    ensures { λ r. ⌜ r ≡ closingChecked room number ⌝ }
+{
+    let checked = check_open(room, number);
+    match checked {
+        Checked::Accepted => {
+            let desk = room.desk_at(number);
+            if !desk.is_sound() {
+                return Checked::Refused(Refusal::Unsound);
+            }
+            Checked::Accepted
+        }
+        Checked::Refused(refusal) => Checked::Refused(refusal),
+    }
+}
+
+// and 11. The others are the board's.
 pub fn check_call(room: Classroom, number: DeskNumber, key: u32) -> Checked
     ensures { λ r. ⌜ r ≡ callingChecked room number key ⌝ }
 {
-    if !number.exists() {
-        return Checked::Refused(Refusal::NoDesk);
+    let checked = check_open(room, number);
+    match checked {
+        Checked::Accepted => {
+            let desk = room.desk_at(number);
+            if desk.key != key {
+                return Checked::Refused(Refusal::WrongKey);
+            }
+            Checked::Accepted
+        }
+        Checked::Refused(refusal) => Checked::Refused(refusal),
     }
-    let desk = room.desk_at(number);
-    if desk.opened != 1 {
-        return Checked::Refused(Refusal::DeskState);
-    }
-    if desk.key != key {
-        return Checked::Refused(Refusal::WrongKey);
-    }
-    Checked::Accepted
 }
 
 // ---- the teacher's calls

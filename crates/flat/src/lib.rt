@@ -53,14 +53,14 @@ pub struct FlatRequestAnswer {
 }
 
 // A reply: the number of refusal and the length that it tells, the PID or the kind, and the bytes written.
-struct Numbers {
-    refusal: u8,
-    found: usize,
-    kind: u8,
-    count: u16,
+pub struct Numbers {
+    pub refusal: u8,
+    pub found: usize,
+    pub kind: u8,
+    pub count: u16,
 }
 
-fn pin_number(pin: Pin) -> u8
+pub fn pin_number(pin: Pin) -> u8
     ensures { λ r. ⌜ r ≡ pinNumber pin ⌝ }
 {
     match pin {
@@ -92,7 +92,7 @@ fn answered_numbers(kind: u8, count: u16) -> Numbers
     }
 }
 
-fn transfer_numbers(reply: TransferReply) -> Numbers
+pub fn transfer_numbers(reply: TransferReply) -> Numbers
     ensures { λ r. ⌜ r ≡ transferNumbers reply ⌝ }
 {
     match reply {
@@ -101,7 +101,7 @@ fn transfer_numbers(reply: TransferReply) -> Numbers
     }
 }
 
-fn event_numbers(reply: EventReply) -> Numbers
+pub fn event_numbers(reply: EventReply) -> Numbers
     ensures { λ r. ⌜ r ≡ eventNumbers reply ⌝ }
 {
     match reply {
@@ -116,7 +116,7 @@ fn event_numbers(reply: EventReply) -> Numbers
     }
 }
 
-fn step_numbers(reply: StepReply) -> Numbers
+pub fn step_numbers(reply: StepReply) -> Numbers
     ensures { λ r. ⌜ r ≡ stepNumbers reply ⌝ }
 {
     match reply {

@@ -20,15 +20,10 @@ mod measured {
     use second::bus::Event;
     use second::compare::{Given, Other, Second};
     use second::library::Library;
+    use second::measure::{print_head, time, ROUNDS};
     use second::runs::*;
-    use second::{ffi, Answer, BoardAnswer, Chip, Firmware, FirmwareAnswer};
+    use second::{ffi, measure, Answer, BoardAnswer, Chip, Firmware, FirmwareAnswer};
     use std::hint::black_box;
-    use std::time::Instant;
-
-    /// Timed rounds of each model, in turn; the best counts.
-    const ROUNDS: usize = 25;
-    /// Calls of one round.
-    const CALLS: u32 = 20_000;
 
     /// What is timed, on the record that some calls from power-on leave.
     struct Case {
@@ -154,29 +149,11 @@ mod measured {
         }
     }
 
-    /// Nanoseconds a call. The record is read anew for each call, and each answer counts as used.
-    fn time<T>(mut call: impl FnMut() -> T) -> f64 {
-        let start = Instant::now();
-        for _ in 0..CALLS {
-            black_box(&call());
-        }
-        start.elapsed().as_nanos() as f64 / f64::from(CALLS)
-    }
-
     fn time_library(case: &Case) -> f64 {
         let (chip, firmware) = prepared(&Library, case);
         let Firmware { configuration, wakeup, halted } = firmware;
         let firmware = ffi::Firmware { configuration, wakeup, halted };
-        let reply = &mut [0; 80][..];
-        match &case.call {
-            Call::Transfer { bytes, .. } => {
-                time(|| ffi::transfer(*black_box(&chip), black_box(bytes), black_box(&mut *reply)))
-            }
-            Call::Event { event, payload, .. } => {
-                time(|| ffi::event(*black_box(&chip), black_box(event), black_box(payload), black_box(&mut *reply)))
-            }
-            _ => time(|| ffi::board_step(*black_box(&chip), black_box(firmware), black_box(&mut *reply))),
-        }
+        measure::time_library(&ffi::Board { chip, firmware }, &case.call)
     }
 
     /// `$by` is the module whose calls are timed.
@@ -216,20 +193,8 @@ mod measured {
         println!("| {name} | {library:.0} | {in_c:.0} | {:.2} | {in_rust:.0} |", library / in_c);
     }
 
-    fn machine() -> String {
-        let text = std::fs::read_to_string("/proc/cpuinfo").unwrap_or_default();
-        let names: Vec<&str> = text.lines().filter(|line| line.starts_with("model name")).collect();
-        let name = names.first().and_then(|line| line.split_once(": ")).map_or("unknown", |(_, name)| name);
-        format!("{name}, {} cores", names.len())
-    }
-
     pub fn print_table() {
-        println!("Machine: {}. Best of {ROUNDS} rounds of {CALLS} calls, both models in turn.\n", machine());
-        println!("Command: `{}`\n", super::COMMAND);
-        println!("Reply buffers are not cleared between calls.\n");
-        if cfg!(debug_assertions) || cfg!(feature = "flips") {
-            println!("**Not comparable: this build of the second model has checks or flips in it.**\n");
-        }
+        print_head("both models", super::COMMAND);
         println!("| call | library, ns | second model, ns | ratio | second model by a Rust call, ns |");
         println!("|---|---:|---:|---:|---:|");
         for case in cases() {

@@ -3,6 +3,9 @@ use borrow.Author.Needs.{needs}
 use Rattle.capi.proofs.max3420e_event.Statement.{statement}
 use Rattle.capi.proofs.max3420e_event.Tie as tie
 
+event-of-requires : tie.Need-event-of-requires
+event-of-requires c κs = search needs
+
 event-requires : tie.Need-event-requires
 event-requires c κs = search needs
 
@@ -15,7 +18,8 @@ same-length c = search needs
 returns : tie.Need-returns
 returns c =
     let call = c .before .before .before .event in
-    (rw (c .flat-event .ensures, call .ensures .0 .0), call .ensures .0 .1)
+    let made = c .before .before .before .before .before .event-of .ensures in
+    (rw (c .flat-event .ensures, call .ensures .0 .0, made), rw (← made) (call .ensures .0 .1))
 
 pub max3420e-event-spec : {M : Type 1} → statement M
-max3420e-event-spec = tie.close (tie.spec event-requires flat-event-requires same-length returns)
+max3420e-event-spec = tie.close (tie.spec event-of-requires event-requires flat-event-requires same-length returns)
