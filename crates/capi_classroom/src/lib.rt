@@ -52,7 +52,7 @@ pub extern "C" fn max3420e_desk_transfer(
         (Call.transfer (now (bytes .entry)) (length (now (reply .entry))))))
         × (now (reply .exit) ≡ transferLent classroom (deskNumber desk) key (now (bytes .entry)) (now (reply .entry))) ⌝ }
 {
-    flat_desk_transfer(classroom::transfer(classroom, DeskNumber(desk), key, bytes, reply))
+    flat_desk_transfer(desk::transfer(classroom, DeskNumber(desk), key, bytes, reply))
 }
 
 #[no_mangle]
@@ -76,7 +76,7 @@ pub extern "C" fn max3420e_desk_event(
         (now (payload .entry)) (now (reply .entry))) ⌝ }
 {
     let event = event_of(code, pins, address, endpoint, damaged, data1, acknowledged);
-    flat_desk_event(classroom::event(classroom, DeskNumber(desk), key, event, payload, reply))
+    flat_desk_event(desk::event(classroom, DeskNumber(desk), key, event, payload, reply))
 }
 
 #[no_mangle]
@@ -89,5 +89,5 @@ pub extern "C" fn max3420e_desk_step(
     ensures { λ r. ⌜ (r ≡ flatDeskStep (deskStep classroom (deskNumber desk) key (length (now (reply .entry)))))
         × (now (reply .exit) ≡ stepLent classroom (deskNumber desk) key (now (reply .entry))) ⌝ }
 {
-    flat_desk_step(classroom::step(classroom, DeskNumber(desk), key, reply))
+    flat_desk_step(desk::step(classroom, DeskNumber(desk), key, reply))
 }

@@ -1,10 +1,11 @@
 -- The classroom's five calls: when each is refused, its answer, and the classroom after it (document 02, Ask 3). A pupil's call is the
 -- board's own, on the records of his desk; no rule of the chip is named here.
 use mathlib.Core.Bool.{Bool, not, _||_}
-use mathlib.Core.List.{List, [], _∷_, _++_}
+use mathlib.Core.List.{List, [], _∷_}
 use Prim.Native.Nat.{ℕ}
 use lib.Dec.{eqb}
 use lib.ListN.{length}
+use Rattle.bits.specs.Flag.{isOn}
 use Rattle.refusal.specs.declared.Refusal.{Refusal}
 use Rattle.refusal.specs.declared.Refusal.the-variants.{Unsound, NoDesk, DeskState, WrongKey, BadKey}
 use Rattle.refusal.specs.declared.Checked.{Checked}
@@ -35,22 +36,19 @@ abbrev pub openingGrounds : DeskNumber → Bool → Desk → ℕ → List (Bool 
 openingGrounds n used d key =
     (not (isDesk n), NoDesk) ∷ (isOpen d, DeskState) ∷ (eqb key 0 || used, BadKey) ∷ (not (soundDesk d), Unsound) ∷ []
 
--- of every call to a desk that must be open
-abbrev pub openGrounds : DeskNumber → Desk → List (Bool × Refusal)
-openGrounds n d = (not (isDesk n), NoDesk) ∷ (not (isOpen d), DeskState) ∷ []
-
 abbrev pub closingGrounds : DeskNumber → Desk → List (Bool × Refusal)
-closingGrounds n d = openGrounds n d ++ ((not (soundDesk d), Unsound) ∷ [])
+closingGrounds n d = (not (isDesk n), NoDesk) ∷ (not (isOpen d), DeskState) ∷ (not (soundDesk d), Unsound) ∷ []
+
+-- of a desk's flag and key
+abbrev pub keyGrounds : ℕ → ℕ → ℕ → List (Bool × Refusal)
+keyGrounds opened own key = (not (isOn opened), DeskState) ∷ (not (eqb own key), WrongKey) ∷ []
 
 -- then the board's own grounds, 1 first
 abbrev pub callingGrounds : DeskNumber → Desk → ℕ → List (Bool × Refusal)
-callingGrounds n d key = openGrounds n d ++ ((not (eqb (d .key) key), WrongKey) ∷ [])
+callingGrounds n d key = (not (isDesk n), NoDesk) ∷ keyGrounds (d .opened) (d .key) key
 
 abbrev pub openingChecked : Classroom → DeskNumber → ℕ → Checked
 openingChecked room n key = check (openingGrounds n (keyInUse room key) (deskAt room n) key)
-
-abbrev pub openChecked : Classroom → DeskNumber → Checked
-openChecked room n = check (openGrounds n (deskAt room n))
 
 abbrev pub closingChecked : Classroom → DeskNumber → Checked
 closingChecked room n = check (closingGrounds n (deskAt room n))

@@ -1,65 +1,26 @@
--- `check_call` meets its promise: 9 and 10 as `check_open`, then 11.
-use mathlib.Core.Path.{_≡_, refl, sym, _∙_}
-use mathlib.Core.Bool.{not}
-use mathlib.Core.List.{[], _∷_}
-use lib.Dec.{eqb}
-use borrow.Author.Tests.{eq-eqb, ne-eqb}
+-- `check_call` meets its promise: 9, then as `check_key`.
+use mathlib.Core.Path.{_≡_, sym, _∙_}
+use borrow.Author.Tests.{not-false}
 use borrow.Author.Needs.{needs}
-use Rattle.refusal.specs.declared.Refusal.the-variants.{WrongKey}
-use Rattle.classroom_record.specs.Record.{deskAt}
-use Rattle.classroom.specs.Calls.{openGrounds}
-use Rattle.classroom.proofs.Append.{check-append}
-use Rattle.classroom.proofs.Here.{open-here}
 use Rattle.classroom.proofs.check_call.Statement.{statement}
 use Rattle.classroom.proofs.check_call.Tie as tie
 
-check-open-requires : tie.Need-check-open-requires
-check-open-requires c κs = search needs
-
-enum-told : tie.Need-enum-told
-enum-told c = search needs
-
-desk-at-requires : tie.Need-desk-at-requires
-desk-at-requires c κs =
-    let a = c .before .before .before .args in
-    open-here (a .room) (a .number) (sym (c .before .before .check-open .ensures) ∙ c .enum-told .given .1)
+exists-requires : tie.Need-exists-requires
+exists-requires c κs = search needs
 
 returns : tie.Need-returns
-returns c =
-    let b = c .before .before .before in
-    let a = b .before .before .before .args in
-    let d = deskAt (a .room) (a .number) in
-    let parts = check-append (openGrounds (a .number) d) ((not (eqb (d .key) (a .key)), WrongKey) ∷ []) in
-    sym (sym parts ∙ rw (
-      ← b .before .before .check-open .ensures,
-      b .enum-told .given .1,
-      ← c .before .before .desk-at .ensures,
-      ne-eqb _ _ (c .if1 .taken),
-    ) refl)
+returns c = rw (← c .before .exists .ensures, c .if1 .taken)
 
-enum-known-checked : tie.Need-enum-known-checked
-enum-known-checked c = search needs
+desk-at-requires : tie.Need-desk-at-requires
+desk-at-requires c κs = sym (c .before .exists .ensures) ∙ not-false (c .before .exists .result) (c .if1 .left)
+
+check-key-requires : tie.Need-check-key-requires
+check-key-requires c κs = search needs
 
 returns-2 : tie.Need-returns-2
 returns-2 c =
-    let b = c .before .before .before in
-    let a = b .before .before .before .args in
-    let d = deskAt (a .room) (a .number) in
-    let parts = check-append (openGrounds (a .number) d) ((not (eqb (d .key) (a .key)), WrongKey) ∷ []) in
-    sym (sym parts ∙ rw (
-      ← b .before .before .check-open .ensures,
-      b .enum-told .given .1,
-      ← c .before .before .desk-at .ensures,
-      eq-eqb _ _ (c .if1 .left),
-    ) refl)
-
-returns-3 : tie.Need-returns-3
-returns-3 c =
-    let a = c .before .before .before .before .args in
-    let d = deskAt (a .room) (a .number) in
-    let parts = check-append (openGrounds (a .number) d) ((not (eqb (d .key) (a .key)), WrongKey) ∷ []) in
-    sym (sym parts ∙ rw (← c .before .before .before .check-open .ensures, c .before .checked .given .1) refl)
+    let b = c .before in
+    rw (← b .before .before .exists .ensures, b .before .if1 .left, ← b .desk-at .ensures) (c .check-key .ensures)
 
 pub check-call-spec : {M : Type 1} → statement M
-check-call-spec =
-    tie.close (tie.spec check-open-requires enum-told desk-at-requires returns enum-known-checked returns-2 returns-3)
+check-call-spec = tie.close (tie.spec exists-requires returns desk-at-requires check-key-requires returns-2)
