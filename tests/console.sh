@@ -34,10 +34,12 @@ run() {
     "$program" "$2" >"$work/$1.out" 2>"$work/err" && [ -s "$work/$1.out" ] && silent "$work/err"
 }
 
+# What a call answers.
+call='(reply|data|data0|data1)( [0-9A-F]{2})*|ok|silence|ack|nak|stall|idle|refused ([1-57]|[68] found [0-9]+)'
+
 # Every line is an answer with its pin, an error, or a line of show and help, which starts with a blank.
 answers_only() {
-    result='(reply|data|data0|data1)( [0-9A-F]{2})*|ok|silence|ack|nak|stall|idle|refused ([1-57]|[68] found [0-9]+)'
-    ! LC_ALL=C grep -a -q -v -E "^([0-9]+ (($result) int=(low|high|open)|error: .*)|  .*)$" "$1"
+    ! LC_ALL=C grep -a -q -v -E "^([0-9]+ (($call) int=(low|high|open)|error: .*)|  .*)$" "$1"
 }
 
 # answers LINES: what the console says to lines given to printf.
@@ -92,6 +94,7 @@ script_like() {
 
 for script in examples/*.txt; do
     name=$(basename "$script" .txt)
+    [ "$name" = classroom ] && continue
     check "$script" run "$name" "$script"
     check "$script against its .out" same "$work/$name.out" "examples/$name.out"
     awk '{ printf "%s\r\n", $0 }' "$script" >"$work/crlf"
@@ -142,7 +145,96 @@ check "standard input closed" says "^max3420e: cannot read standard input: Bad f
 "$program" examples/bench.txt examples/stall.txt >"$work/out" 2>"$work/err"
 check "two files" says "one file at most"
 
+# A classroom: its example, refusals by number, faults, input of any kind.
+# attend NAME INPUT, said LINES: as run and answers, of a classroom.
+attend() {
+    "$program" classroom "$2" >"$work/$1.out" 2>"$work/err" && [ -s "$work/$1.out" ] && silent "$work/err"
+}
+said() { printf "$1" | "$program" classroom | tr '\n' ';'; }
+lesson_only() {
+    teacher='ok|refused (9|10|11|12)|desk [0-9]+: [0-9]+ calls?|no desk is open|error: .*'
+    ! LC_ALL=C grep -a -q -v -E "^([0-9]+ (($call) int=(low|high|open)|$teacher)|  .*)$" "$1"
+}
+# at DESK KEY: the lines of a script at that desk.
+at() { awk -v desk="$1" -v key="$2" '{ print desk, key, $0 }'; }
+# Lines of a classroom, from a fixed seed: those of a script at desks with their keys, and others.
+lesson_like() {
+    awk '
+    function pick(n) { return int(rand() * n) }
+    BEGIN { srand(16) }
+    {
+        k = pick(200)
+        if (k < 4) print "open", pick(18), (pick(4) ? keys[pick(4)] : "0")
+        else if (k < 5) print "close", pick(17)
+        else if (k < 6) print others[pick(6)]
+        else { desk = pick(5); print desk, (pick(20) ? "A" desk : "B" pick(9)), $0 }
+    }
+    BEGIN {
+        for (i = 0; i < 5; i++) keys[i] = "A" i
+        split("desks,help,open,open 3,close x,3 A3", o, ",")
+        for (i in o) others[i % 6] = o[i]
+        for (i = 0; i < 5; i++) print "open", i, "A" i
+    }'
+}
+check "examples/classroom.txt" attend classroom examples/classroom.txt
+check "examples/classroom.txt against its .out" same "$work/classroom.out" examples/classroom.out
+awk '{ printf "%s\r\n", $0 }' examples/classroom.txt >"$work/crlf"
+check "a classroom with CRLF" attend crlf "$work/crlf"
+check "a classroom with CRLF against LF" same "$work/crlf.out" "$work/classroom.out"
+"$program" classroom <examples/classroom.txt >"$work/stdin.out"
+check "a classroom on standard input" same "$work/stdin.out" "$work/classroom.out"
+check "a classroom: random bytes" attend noise "$work/noise"
+head -n 100000 "$work/script" | lesson_like >"$work/lesson"
+check "a classroom: random lines" attend lesson "$work/lesson"
+check "a classroom: random lines: answers" lesson_only "$work/lesson.out"
+check "a classroom: a record that is reached is sound" [ "$(grep -c ' refused 1 ' "$work/lesson.out")" -eq 0 ]
+for result in reply ok silence ack nak stall data0 data1 data idle 'refused 9' 'refused 10' 'refused 11' 'refused 12' 'desk' 'error:'; do
+    check "a classroom: random lines: some $result" grep -q "^[0-9]* $result" "$work/lesson.out"
+done
+# A desk answers as the console does, whatever is sent to another: lines at desk 0, and between them others at desk 1.
+head -n 20000 "$work/script" | grep -v '^#' | sed '/^$/d' >"$work/plain"
+"$program" "$work/plain" | sed 's/^[0-9][0-9]* //' >"$work/alone.out"
+{ echo 'open 0 A0'; echo 'open 1 A1'; at 0 A0 <"$work/plain"; } >"$work/one"
+"$program" classroom "$work/one" | sed 's/^[0-9][0-9]* //; 1,2d' >"$work/one.out"
+check "a desk answers as the console" same "$work/one.out" "$work/alone.out"
+{
+    echo 'open 0 A0'
+    echo 'open 1 A1'
+    tail -n 20000 "$work/script" | grep -v -E '^(#|show|help)' | sed '/^$/d' | at 1 A1 >"$work/others"
+    at 0 A0 <"$work/plain" | grep -v -E ' (show|help)$' | paste -d '\n' - "$work/others"
+} >"$work/two"
+"$program" classroom "$work/two" | awk '$1 > 2 && $1 % 2 { sub(/^[0-9]* /, ""); print }' >"$work/two.out"
+grep -v '^  ' "$work/alone.out" >"$work/calls.out"
+check "a desk answers the same beside another" same "$work/two.out" "$work/calls.out"
+
+check "keys of either case, of one and eight digits" [ "$(said 'open 0 f\nopen 1 DeadBeef\n0 0000000F room 1\n1 DEADBEEF step\n')" \
+    = "1 ok;2 ok;4 idle int=high;" ]
+check "a key of nine digits" [ "$(said 'open 0 123456789\n0 123456789 step\n')" \
+    = "1 error: a key is one to eight hex digits, not '123456789';2 error: a key is one to eight hex digits, not '123456789';" ]
+check "desks that are not there" [ "$(said 'open 16 1\nopen 256 1\n272 1 step\nclose 99999999999999999999\nopen 15 1\nopen 00 2\n')" \
+    = "1 refused 9;2 refused 9;3 refused 9;4 refused 9;5 ok;6 ok;" ]
+check "a wrong key, whatever follows" [ "$(said 'open 2 7\n2 8 spi\n2 8 show\n2 8 help\n2 8 room x\n2 8 hello\n2 8\n')" \
+    = "1 ok;2 refused 11;3 refused 11;4 refused 11;5 refused 11;6 refused 11;7 refused 11;" ]
+check "a refused opening leaves the desk as it is" [ "$(said 'open 2 7\n2 7 room 1\nopen 2 8\n2 7 spi 58 00\ndesks\n')" \
+    = "1 ok;3 refused 10;4 refused 4 int=high;5 desk 2: 1 call;" ]
+check "an opening puts room and calls back" [ "$(said 'open 2 7\n2 7 room 1\n2 7 step\nclose 2\nopen 2 7\n2 7 spi 58 00\ndesks\n')" \
+    = "1 ok;3 refused 4 int=high;4 ok;5 ok;6 reply 00 19 int=high;7 desk 2: 1 call;" ]
+check "no desk is open" [ "$(said 'desks\n# none\n\n')" = "1 no desk is open;" ]
+{ printf 'open 1 1\n1 1 step'; repeated 16376 ' '; printf '\n1 1 step'; repeated 16377 ' '; printf '\n1 1 step\n'; } >"$work/lines"
+check "a classroom: lines of 16,384 and 16,385 bytes" attend lines "$work/lines"
+check "a classroom: the longer is an error, and it goes on" [ "$(sed 's/error: .*/error/' "$work/lines.out" | tr '\n' ';')" \
+    = "1 ok;2 idle int=high;3 error;4 idle int=high;" ]
+"$program" classroom "$work/missing" >"$work/out" 2>"$work/err"
+check "a classroom: a missing file" says "cannot open .*/missing: No such file"
+"$program" classroom examples/bench.txt examples/stall.txt >"$work/out" 2>"$work/err"
+check "a classroom: two files" says "one file at most"
+"$program" classroom examples/classroom.txt >/dev/full 2>"$work/err"
+check "a classroom: a full device" says "standard output: No space left"
+cp examples/bench.txt "$work/classroom"
+check "a file called classroom" [ "$(cd "$work" && "$OLDPWD/$program" ./classroom)" = "$(cat examples/bench.out)" ]
+
 check "./max3420e: status 0" [ "$(./max3420e examples/bench.txt 2>&1)" = "$(cat examples/bench.out)" ]
+check "./max3420e classroom: status 0" [ "$(./max3420e classroom examples/classroom.txt 2>&1)" = "$(cat examples/classroom.out)" ]
 ./max3420e "$work/missing" >"$work/out" 2>"$work/err"
 check "./max3420e: status 1 for a missing file" [ "$?" -eq 1 ]
 check "./max3420e: and the message" says "cannot open .*/missing: No such file"

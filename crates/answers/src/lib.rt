@@ -5,6 +5,7 @@ use board::StepReply;
 use chip::Pin;
 use event_answer::EventReply;
 use output::Output;
+use refusal::Checked;
 use refusal::Refusal;
 use spi::TransferReply;
 
@@ -128,4 +129,22 @@ pub fn answer_step(
     let begun = begin(line, page, output);
     let said = put_step(reply, bytes, page, begun);
     finish(pin, page, said)
+}
+
+fn put_checked(checked: Checked, page: &mut [u8], output: Output) -> Output
+    ensures { λ r. ⌜ r .filled ≤ length (now (page .entry)) ⌝ }
+{
+    match checked {
+        Checked::Accepted => output::put(b"ok", page, output),
+        Checked::Refused(refusal) => put_refusal(refusal, page, output),
+    }
+}
+
+// The same where no chip is asked: there is no pin.
+pub fn answer_checked(line: u64, checked: Checked, page: &mut [u8], output: Output) -> Output
+    ensures { λ r. ⌜ r .filled ≤ length (now (page .entry)) ⌝ }
+{
+    let begun = begin(line, page, output);
+    let said = put_checked(checked, page, begun);
+    output::put(b"\n", page, said)
 }

@@ -1,17 +1,14 @@
 // The console: a line is read, what it asks for is called, and the answer is put. The board is held here and nowhere else.
 ghost use Prim.Native.Nat.{_≤_};
 ghost use lib.ListN.{length};
-ghost use Rattle.script.specs.Command.{commandCount};
 use board::Board;
 use model::Event;
 use output::Output;
 use script::Command;
-
-// The bytes of a line, at most.
-const LINE: usize = 16384;
+use script::Fault;
 
 // The bytes lent for replies at first. No reply is longer, so that a greater room answers as this one does.
-const ROOM: usize = 4200;
+pub const ROOM: usize = 4200;
 
 pub struct Console {
     pub board: Board,
@@ -73,8 +70,23 @@ fn step(console: Console, reply: &mut [u8], page: &mut [u8]) -> Console {
     after(console, answer.board, output)
 }
 
+// Why a line cannot be read.
+pub fn answer_fault(
+    number: u64,
+    fault: Fault,
+    line: &[u8],
+    page: &mut [u8],
+    output: Output,
+) -> Output
+    ensures { λ r. ⌜ r .filled ≤ length (now (page .entry)) ⌝ }
+{
+    let begun = answers::begin(number, page, output);
+    let told = messages::put_fault(fault, line, page, begun);
+    output::put(b"\n", page, told)
+}
+
 // What a command puts that is no call.
-fn tell(console: Console, command: Command, line: &[u8], page: &mut [u8]) -> Console {
+pub fn tell(console: Console, command: Command, line: &[u8], page: &mut [u8]) -> Console {
     let output = console.output;
     let mut next = console;
     match command {
@@ -93,10 +105,8 @@ fn tell(console: Console, command: Command, line: &[u8], page: &mut [u8]) -> Con
             next
         }
         Command::Fault(fault) => {
-            let begun = answers::begin(console.line, page, console.output);
-            let told = messages::put_fault(fault, line, page, begun);
-            let ended = output::put(b"\n", page, told);
-            next.output = ended;
+            let told = answer_fault(console.line, fault, line, page, output);
+            next.output = told;
             next
         }
         _ => next,
@@ -111,47 +121,46 @@ fn perform(
     bytes: &[u8],
     reply: &mut [u8],
     page: &mut [u8],
-) -> Console
-    requires { ⌜ commandCount command ≤ length (now bytes) ⌝ }
-{
+) -> Console {
     match command {
-        Command::Transfer(count) => transfer(console, &bytes[..count], reply, page),
-        Command::Event(sent, count) => event(console, sent, &bytes[..count], reply, page),
+        Command::Transfer(_count) => transfer(console, bytes, reply, page),
+        Command::Event(sent, _count) => event(console, sent, bytes, reply, page),
         Command::Step => step(console, reply, page),
         _ => tell(console, command, line, page),
     }
 }
 
-// A line that is too long is not read.
-fn refuse_line(console: Console, page: &mut [u8]) -> Console {
-    let begun = answers::begin(console.line, page, console.output);
-    let told = output::put(b"error: a line has at most 16384 bytes\n", page, begun);
-    let mut next = console;
-    next.output = told;
-    next
-}
-
-// A line of 16,384 bytes at most.
-fn read_line(console: Console, line: &[u8], page: &mut [u8]) -> Console
-    requires { ⌜ length (now line) ≤ 16384 ⌝ }
+// How many bytes a room lends.
+pub fn lent(room: usize) -> usize
+    ensures { λ r. ⌜ r ≤ 4200 ⌝ }
 {
-    let mut bytes = [0u8; 16384];
-    let mut reply = [0u8; 4200];
-    let command = script::parse(line, &mut bytes);
-    let room = console.room;
-    if ROOM <= room {
-        return perform(console, command, line, &bytes, &mut reply, page);
-    }
-    perform(console, command, line, &bytes, &mut reply[..room], page)
+    if ROOM < room { ROOM } else { room }
 }
 
-// Takes a line, without its line end.
-pub fn take_line(console: Console, line: &[u8], page: &mut [u8]) -> Console {
+// Takes a line, without its line end, and puts its answer where the output has come to. The lent bytes are for what the line names.
+pub fn take_line(
+    console: Console,
+    number: u64,
+    line: &[u8],
+    bytes: &mut [u8],
+    page: &mut [u8],
+    output: Output,
+) -> Console
+    requires { ⌜ length (now line) ≤ length (now bytes) ⌝ }
+{
     let mut next = console;
-    next.line = std::num::wrapping_add_u64(console.line, 1);
-    let length = words::without_return(line);
-    if LINE < length {
-        return refuse_line(next, page);
-    }
-    read_line(next, &line[..length], page)
+    next.line = number;
+    next.output = output;
+    let mut reply = [0u8; 4200];
+    let command = script::parse(line, bytes);
+    let count = command.count();
+    let room = lent(console.room);
+    perform(
+        next,
+        command,
+        line,
+        &bytes[..count],
+        &mut reply[..room],
+        page,
+    )
 }

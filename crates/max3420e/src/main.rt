@@ -1,151 +1,84 @@
-// The console on a file that is named, or on standard input: `max3420e [FILE]`.
-ghost use Prim.Native.Nat.{_≤_};
-ghost use lib.ListN.{length};
+// The console, or the console of a classroom, on a file that is named or on standard input: `max3420e [FILE]`,
+// `max3420e classroom [FILE]`.
 use console::Console;
+use roster::Roster;
+use session::Session;
 
-// What is kept between two reads.
-struct Session {
-    console: Console,
-    // The bytes of the line that has no end yet, and whether to go on.
-    filled: usize,
-    going: bool,
-}
+const USAGE: [u8; 114] =
+    *b"max3420e: one file at most: max3420e [FILE], or max3420e classroom [FILE]; \
+    a file called classroom is ./classroom\n";
 
-fn lesser(a: usize, b: usize) -> usize
-    ensures { λ r. ⌜ (r ≤ a) × (r ≤ b) ⌝ }
-{
-    if a < b { a } else { b }
-}
-
-// Adds a part to a line that is filled so far. What does not fit is dropped: the line is too long then.
-fn append(part: &[u8], line: &mut [u8], filled: usize) -> usize
-    ensures { λ r. ⌜ r ≤ length (now (line .entry)) ⌝ }
-{
-    let length = line.len();
-    if length < filled {
-        return length;
-    }
-    let count = lesser(part.len(), length - filled);
-    bytes::copy(&part[0..count], &mut line[filled..]);
-    filled + count
-}
-
-// Takes a part of a line, and the line if it ends.
-fn take_part(
-    part: &[u8],
-    ends: bool,
-    session: Session,
-    line: &mut [u8],
-    page: &mut [u8],
-) -> Session {
+// What stands on the page before the first line, where a person types.
+fn greet(session: Session, taught: bool, page: &mut [u8]) -> Session {
     let mut next = session;
-    let filled = append(part, line, session.filled);
-    next.filled = filled;
-    if ends {
-        let console = console::take_line(session.console, &line[0..filled], page);
-        next.console = console;
-        next.filled = 0;
+    if taught {
+        let greeted = messages::put_classroom_greeting(page, session.output);
+        next.output = greeted;
         return next;
     }
+    let greeted = messages::put_greeting(page, session.output);
+    next.output = greeted;
     next
 }
 
-// Takes each line of a chunk.
-fn take_chunk(chunk: &[u8], session: Session, line: &mut [u8], page: &mut [u8]) -> Session {
-    let length = chunk.len();
-    let mut next = session;
-    let mut start: usize = 0;
-    while start < length {
-        let end = bytes::scan::find(chunk, start, length, b'\n');
-        next = take_part(&chunk[start..end], end < length, next, line, page);
-        start = end + 1;
-    }
-    next
-}
-
-// Writes what waits on the page, and says so where that fails.
-fn flush(session: Session, page: &[u8]) -> Session {
-    let mut console = session.console;
-    let output = output::flush(page, console.output);
-    console.output = output;
-    let mut next = session;
-    next.console = console;
-    if output.failed {
-        os::fail(b"max3420e: standard output");
-        next.going = false;
-    }
-    next
-}
-
-// Nothing more is read.
-fn stop(session: Session, page: &[u8]) -> Session {
-    let mut last = session;
-    last.going = false;
-    flush(last, page)
-}
-
-// The input has ended: a last line may have no line end.
-fn take_end(session: Session, line: &mut [u8], page: &mut [u8]) -> Session {
-    if session.filled == 0 {
-        return stop(session, page);
-    }
-    let last = take_part(b"", true, session, line, page);
-    stop(last, page)
-}
-
-// Reads once and takes what came.
-fn read_some(fd: i32, path: &[u8], session: Session, line: &mut [u8], page: &mut [u8]) -> Session {
-    let mut chunk = io::large_buffer();
-    let got = libc::read(fd, &mut chunk);
-    if got < 0 {
-        io::write_all(libc::STDERR_FILENO, b"max3420e: cannot read ");
-        os::fail(path);
-        return take_end(session, line, page);
-    }
-    if got == 0 {
-        return take_end(session, line, page);
-    }
-    let count = io::count(got, &chunk);
-    let taken = take_chunk(&chunk[..count], session, line, page);
-    flush(taken, page)
-}
-
-// A proved loop has to end, and nothing says that a file does. So the loop counts its turns down, from a number that no run
-// uses up.
-fn run(fd: i32, path: &[u8], greet: bool) {
-    let mut line = [0u8; 16386];
-    let mut page = io::large_buffer();
-    let mut session = start(greet, &mut page);
-    let mut turns = u64::MAX;
-    while 0 < turns {
-        if !session.going {
-            return;
-        }
-        session = read_some(fd, path, session, &mut line, &mut page);
-        turns -= 1;
-    }
-}
-
-// The console at power-on, with a greeting where a person types.
-fn start(greet: bool, page: &mut [u8]) -> Session {
-    let mut session = Session {
-        console: Console::power_on(),
-        filled: 0,
-        going: true,
-    };
-    if greet {
-        let mut console = session.console;
-        let output = messages::put_greeting(page, console.output);
-        console.output = output;
-        session.console = console;
-        return flush(session, page);
+fn begin(fd: i32, taught: bool, typed: bool, page: &mut [u8]) -> Session {
+    let session = Session::begin(fd);
+    if typed {
+        return greet(session, taught, page);
     }
     session
 }
 
-fn run_file() {
+// A proved loop has to end, and nothing says that a file does. So the loop counts its turns down, from a number that no run uses up. Both
+// consoles are held side by side, so that one that is not used is not copied.
+fn run(fd: i32, path: &[u8], taught: bool, typed: bool) {
+    let mut chunk = io::large_buffer();
+    let mut line = [0u8; 16386];
+    let mut bytes = [0u8; 16384];
+    let mut page = io::large_buffer();
+    let mut session = begin(fd, taught, typed, &mut page);
+    let mut console = Console::power_on();
+    let mut roster = Roster::start();
+    let mut turns = u64::MAX;
+    while 0 < turns {
+        turns -= 1;
+        session = session::next(session, path, &mut chunk, &mut line, &mut page);
+        if session.over {
+            return;
+        }
+        let number = session.number;
+        let length = session.length;
+        let output = session.output;
+        if taught {
+            roster = classroom_console::take_line(
+                roster,
+                number,
+                &line[..length],
+                &mut bytes,
+                &mut page,
+                output,
+            );
+            let answered = roster.output;
+            session.output = answered;
+            continue;
+        }
+        console = console::take_line(
+            console,
+            number,
+            &line[..length],
+            &mut bytes,
+            &mut page,
+            output,
+        );
+        let answered = console.output;
+        session.output = answered;
+    }
+}
+
+// Runs on the file that an argument names.
+fn run_file(argument: usize, taught: bool) {
     let mut path = io::buffer();
-    let length = os::arg(1, &mut path);
+    let length = os::arg(argument, &mut path);
     if os::errno() != 0 {
         os::fail(b"max3420e: the file's name");
         return;
@@ -156,26 +89,38 @@ fn run_file() {
         os::fail(&path[..length]);
         return;
     }
-    run(fd, &path[..length], false);
+    run(fd, &path[..length], taught, false);
     libc::close(fd);
+}
+
+// Whether the first argument asks for a classroom.
+fn is_taught() -> bool {
+    let mut word = io::buffer();
+    let length = os::arg(1, &mut word);
+    words::is_name(&word[..length], b"classroom")
+}
+
+// Where the file's name stands among the arguments, if there is one.
+fn file_place(taught: bool) -> usize {
+    if taught { 2 } else { 1 }
 }
 
 fn main() {
     let count = os::arg_count();
-    if 2 < count {
-        io::write_all(
-            libc::STDERR_FILENO,
-            b"max3420e: one file at most: max3420e [FILE]\n",
-        );
-        return;
-    }
-    if count == 2 {
-        run_file();
+    let taught = is_taught();
+    let place = file_place(taught);
+    if place < count {
+        if place + 1 < count {
+            io::write_all(libc::STDERR_FILENO, &USAGE);
+            return;
+        }
+        run_file(place, taught);
         return;
     }
     run(
         libc::STDIN_FILENO,
         b"standard input",
+        taught,
         libc::isatty(libc::STDIN_FILENO) == 1,
     );
 }

@@ -31,6 +31,16 @@ const HELP: [u8; 1903] =
     \x20 help                                    help                         these lines\n\
     \x20 Numbers are hex of one or two digits; # starts a comment.\n";
 
+// The lines of a classroom.
+const CLASSROOM_HELP: [u8; 632] = *b"\x20 Line            Example                What it does\n\
+    \x20 open DESK KEY   open 3 DEADBEEF        opens a desk, whose board is at power-on, for who has the key\n\
+    \x20 close DESK      close 3                closes a desk: its board goes back to power-on\n\
+    \x20 DESK KEY LINE   3 DEADBEEF spi 58 00   a line at a desk\n\
+    \x20                 3 DEADBEEF help        the lines that a desk takes\n\
+    \x20 desks           desks                  the desks that are open, with the calls of each since its opening\n\
+    \x20 help            help                   these lines\n\
+    \x20 A desk is a decimal number, 0 to 15; a key is one to eight hex digits, not 0; # starts a comment.\n";
+
 pub fn put_greeting(page: &mut [u8], output: Output) -> Output
     ensures { λ r. ⌜ r .filled ≤ length (now (page .entry)) ⌝ }
 {
@@ -45,6 +55,22 @@ pub fn put_help(page: &mut [u8], output: Output) -> Output
     ensures { λ r. ⌜ r .filled ≤ length (now (page .entry)) ⌝ }
 {
     output::put(&HELP, page, output)
+}
+
+pub fn put_classroom_greeting(page: &mut [u8], output: Output) -> Output
+    ensures { λ r. ⌜ r .filled ≤ length (now (page .entry)) ⌝ }
+{
+    output::put(
+        b" Sixteen desks, all closed. Type help for the lines it takes; end with control-D.\n",
+        page,
+        output,
+    )
+}
+
+pub fn put_classroom_help(page: &mut [u8], output: Output) -> Output
+    ensures { λ r. ⌜ r .filled ≤ length (now (page .entry)) ⌝ }
+{
+    output::put(&CLASSROOM_HELP, page, output)
 }
 
 // What a line that names no call should start with.
@@ -63,6 +89,17 @@ fn put_lines(page: &mut [u8], output: Output) -> Output
     )
 }
 
+// The same in a classroom.
+fn put_orders(page: &mut [u8], output: Output) -> Output
+    ensures { λ r. ⌜ r .filled ≤ length (now (page .entry)) ⌝ }
+{
+    output::put(
+        b"a line starts with a desk's number, open, close, desks or help",
+        page,
+        output,
+    )
+}
+
 fn put_expected(expected: Expected, page: &mut [u8], output: Output) -> Output
     ensures { λ r. ⌜ r .filled ≤ length (now (page .entry)) ⌝ }
 {
@@ -78,6 +115,9 @@ fn put_expected(expected: Expected, page: &mut [u8], output: Output) -> Output
         Expected::Toggle => output::put(b"an OUT packet is data0 or data1", page, output),
         Expected::Room => output::put(b"a room is a decimal number", page, output),
         Expected::End => output::put(b"the line should end here", page, output),
+        Expected::Order => put_orders(page, output),
+        Expected::Desk => output::put(b"a desk is a decimal number", page, output),
+        Expected::Key => output::put(b"a key is one to eight hex digits", page, output),
     }
 }
 

@@ -5,7 +5,7 @@ use Prim.Native.Nat.{ℕ, _+_, _-_, _*_}
 use lib.Dec.{eqb, ltb, leb}
 use lib.ListN.{length, getD}
 use Rattle.numerals.specs.declared.ByteWord.{ByteWord}
-use Rattle.numerals.specs.declared.DecimalWord.{DecimalWord}
+use Rattle.numerals.specs.declared.NumberWord.{NumberWord}
 
 -- 0 to 9, A to F and a to f; 16 for anything else
 abbrev pub hexDigit : ℕ → ℕ
@@ -29,14 +29,18 @@ byteOf xs =
     cond (eqb (length xs) 1) (byteOfDigits 0 (hexDigit (getD xs 0 0)))
     (cond (eqb (length xs) 2) (byteOfDigits (hexDigit (getD xs 0 0)) (hexDigit (getD xs 1 0))) ByteWord.Unreadable)
 
--- a number with one more digit; from a million on it stays
-abbrev pub grown : ℕ → ℕ → ℕ
-grown n d = cond (ltb n 1000000) (n * 10 + d) n
+-- a number with one more digit; from 2 to the 28 on it stays, so that it has 32 bits
+abbrev pub grown : ℕ → ℕ → ℕ → ℕ
+grown base n d = cond (ltb n 268435456) (n * base + d) n
 
-abbrev pub decimalFrom : ℕ → List ℕ → DecimalWord
-decimalFrom n [] = DecimalWord.Number n
-decimalFrom n (b ∷ bs) = cond (leb 10 (hexDigit b)) DecimalWord.Unreadable (decimalFrom (grown n (hexDigit b)) bs)
+abbrev pub numberFrom : ℕ → ℕ → List ℕ → NumberWord
+numberFrom base n [] = NumberWord.Number n
+numberFrom base n (b ∷ bs) = cond (leb base (hexDigit b)) NumberWord.Unreadable (numberFrom base (grown base n (hexDigit b)) bs)
 
--- decimal digits, at least one
-unfoldable pub decimalOf : List ℕ → DecimalWord
-decimalOf xs = cond (eqb (length xs) 0) DecimalWord.Unreadable (decimalFrom 0 xs)
+-- digits of a base, at least one
+unfoldable pub numberOf : ℕ → List ℕ → NumberWord
+numberOf base xs = cond (eqb (length xs) 0) NumberWord.Unreadable (numberFrom base 0 xs)
+
+-- one to eight hex digits: none of them is lost
+unfoldable pub keyOf : List ℕ → NumberWord
+keyOf xs = cond (ltb 8 (length xs)) NumberWord.Unreadable (numberOf 16 xs)

@@ -1,9 +1,9 @@
-// Numbers as text: hex bytes of one or two digits, decimal numbers.
+// Numbers as text: hex bytes of one or two digits, decimal numbers, keys of one to eight hex digits.
 ghost use mathlib.Core.Path.{_≡_};
 ghost use mathlib.Core.List.{[], _∷_};
 ghost use Prim.Native.Nat.{_<_, _≤_, _/_, _%_};
 ghost use lib.ListN.{length, getD};
-ghost use Rattle.numerals.specs.Numerals.{hexDigit, hexGlyph, byteOfDigits, byteOf, grown, decimalOf};
+ghost use Rattle.numerals.specs.Numerals.{hexDigit, hexGlyph, byteOfDigits, byteOf, grown, numberOf, keyOf};
 
 // What a word says where a byte is expected.
 pub enum ByteWord {
@@ -11,9 +11,9 @@ pub enum ByteWord {
     Unreadable,
 }
 
-// What a word says where a decimal number is expected.
-pub enum DecimalWord {
-    Number(usize),
+// What a word says where a number is expected.
+pub enum NumberWord {
+    Number(u32),
     Unreadable,
 }
 
@@ -74,35 +74,52 @@ pub fn read_byte(word: &[u8]) -> ByteWord
     ByteWord::Unreadable
 }
 
-// A number with one more digit; from a million on it stays.
-fn grow(number: usize, digit: u8) -> usize
-    requires { ⌜ digit < 10 ⌝ }
-    ensures { λ r. ⌜ r ≡ grown number digit ⌝ }
+// A number with one more digit; from 2 to the 28 on it stays.
+fn grow(number: u32, digit: u8, base: u8) -> u32
+    requires { ⌜ (digit < base) × (base ≤ 16) ⌝ }
+    ensures { λ r. ⌜ r ≡ grown base number digit ⌝ }
 {
-    if number < 1000000 {
-        return number * 10 + digit as usize;
+    if number < 268435456 {
+        return number * base as u32 + digit as u32;
     }
     number
 }
 
-// Decimal digits, at least one. A number over a million counts as some number over a million.
-pub fn read_decimal(word: &[u8]) -> DecimalWord
-    ensures { λ r. ⌜ r ≡ decimalOf (now (word .entry)) ⌝ }
+// Digits of a base, at least one. A number that is too large counts as some number over 2 to the 28.
+fn read_number(word: &[u8], base: u8) -> NumberWord
+    requires { ⌜ base ≤ 16 ⌝ }
+    ensures { λ r. ⌜ r ≡ numberOf base (now (word .entry)) ⌝ }
 {
     if word.len() == 0 {
-        return DecimalWord::Unreadable;
+        return NumberWord::Unreadable;
     }
-    let mut number: usize = 0;
+    let mut number: u32 = 0;
     let mut i: usize = 0;
     while i < word.len() {
         let digit = hex_digit(word[i]);
-        if 10 <= digit {
-            return DecimalWord::Unreadable;
+        if base <= digit {
+            return NumberWord::Unreadable;
         }
-        number = grow(number, digit);
+        number = grow(number, digit, base);
         i += 1;
     }
-    DecimalWord::Number(number)
+    NumberWord::Number(number)
+}
+
+pub fn read_decimal(word: &[u8]) -> NumberWord
+    ensures { λ r. ⌜ r ≡ numberOf 10 (now (word .entry)) ⌝ }
+{
+    read_number(word, 10)
+}
+
+// A key: one to eight hex digits.
+pub fn read_key(word: &[u8]) -> NumberWord
+    ensures { λ r. ⌜ r ≡ keyOf (now (word .entry)) ⌝ }
+{
+    if 8 < word.len() {
+        return NumberWord::Unreadable;
+    }
+    read_number(word, 16)
 }
 
 // Two upper-case hex digits.

@@ -1,11 +1,12 @@
 // A line of a script becomes a command. The bytes that it names go to a lent buffer, as long as the line at least.
 ghost use Prim.Native.Nat.{_≤_};
+ghost use mathlib.Core.Path.{_≡_};
 ghost use lib.ListN.{length};
 ghost use Rattle.script.specs.Command.{commandCount, payloadCount};
 use model::EndpointNumber;
 use model::Event;
 use numerals::ByteWord;
-use numerals::DecimalWord;
+use numerals::NumberWord;
 use words::Word;
 
 // What a line asks for. A count is that of the bytes in the lent buffer.
@@ -18,6 +19,23 @@ pub enum Command {
     Show,
     Help,
     Fault(Fault),
+}
+
+impl Command {
+    pub fn count(self) -> usize
+        ensures { λ r. ⌜ r ≡ commandCount self ⌝ }
+    {
+        match self {
+            Command::Nothing => 0,
+            Command::Transfer(count) => count,
+            Command::Event(_sent, count) => count,
+            Command::Step => 0,
+            Command::Room(_room) => 0,
+            Command::Show => 0,
+            Command::Help => 0,
+            Command::Fault(_fault) => 0,
+        }
+    }
 }
 
 // What was expected, and where the word stands in the line that is something else. Nothing stands there where the line ends.
@@ -39,6 +57,10 @@ pub enum Expected {
     Toggle,
     Room,
     End,
+    // In a classroom: the line's start, a desk's number, a key.
+    Order,
+    Desk,
+    Key,
 }
 
 // The bytes at a line's end.
@@ -69,7 +91,7 @@ const IN: u8 = 12;
 const LINES: [u8; 128] = *b"spi     power   stable  vbus    pins    reset   suspend activity\
     setup   out     in      event   step    room    show    help    ";
 
-fn make_fault(expected: Expected, word: Word) -> Fault {
+pub fn make_fault(expected: Expected, word: Word) -> Fault {
     Fault {
         expected,
         start: word.start,
@@ -100,14 +122,6 @@ fn end_line(line: &[u8], at: usize, command: Command) -> Command
     Command::Fault(make_fault(Expected::End, word))
 }
 
-fn byte_at(line: &[u8], word: Word) -> ByteWord
-    requires { ⌜ (word .start ≤ word .end) × (word .end ≤ length (now line)) ⌝ }
-{
-    let start = word.start;
-    let end = word.end;
-    numerals::read_byte(&line[start..end])
-}
-
 // One of two words, and the end.
 fn read_choice(
     line: &[u8],
@@ -134,7 +148,7 @@ fn read_pins(line: &[u8], at: usize) -> Command
     ensures { λ r. ⌜ commandCount r ≤ 0 ⌝ }
 {
     let word = words::next_word(line, at);
-    match byte_at(line, word) {
+    match words::byte_at(line, word) {
         ByteWord::Byte(byte) => {
             let mut levels = make_event(PINS);
             levels.pins = byte;
@@ -148,7 +162,7 @@ fn read_code(line: &[u8], at: usize) -> Command
     ensures { λ r. ⌜ commandCount r ≤ 0 ⌝ }
 {
     let word = words::next_word(line, at);
-    match byte_at(line, word) {
+    match words::byte_at(line, word) {
         ByteWord::Byte(code) => end_line(line, word.end, Command::Event(make_event(code), 0)),
         ByteWord::Unreadable => Command::Fault(make_fault(Expected::Code, word)),
     }
@@ -158,11 +172,9 @@ fn read_room(line: &[u8], at: usize) -> Command
     ensures { λ r. ⌜ commandCount r ≤ 0 ⌝ }
 {
     let word = words::next_word(line, at);
-    let start = word.start;
-    let end = word.end;
-    match numerals::read_decimal(&line[start..end]) {
-        DecimalWord::Number(number) => end_line(line, end, Command::Room(number)),
-        DecimalWord::Unreadable => Command::Fault(make_fault(Expected::Room, word)),
+    match words::number_at(line, word) {
+        NumberWord::Number(number) => end_line(line, word.end, Command::Room(number as usize)),
+        NumberWord::Unreadable => Command::Fault(make_fault(Expected::Room, word)),
     }
 }
 
@@ -178,7 +190,7 @@ fn read_bytes(line: &[u8], at: usize, bytes: &mut [u8]) -> Payload
         if word.is_none() {
             return Payload::Bytes(count);
         }
-        let ByteWord::Byte(byte) = byte_at(line, word) else {
+        let ByteWord::Byte(byte) = words::byte_at(line, word) else {
             return Payload::Fault(make_fault(Expected::Byte, word));
         };
         bytes[count] = byte;
@@ -201,11 +213,11 @@ fn read_transfer(line: &[u8], at: usize, bytes: &mut [u8]) -> Command
 // The address and the endpoint of a transaction.
 fn read_target(line: &[u8], at: usize, code: u8) -> Target {
     let first = words::next_word(line, at);
-    let ByteWord::Byte(address) = byte_at(line, first) else {
+    let ByteWord::Byte(address) = words::byte_at(line, first) else {
         return Target::Fault(make_fault(Expected::Address, first));
     };
     let second = words::next_word(line, first.end);
-    let ByteWord::Byte(number) = byte_at(line, second) else {
+    let ByteWord::Byte(number) = words::byte_at(line, second) else {
         return Target::Fault(make_fault(Expected::Endpoint, second));
     };
     let endpoint = EndpointNumber(number);

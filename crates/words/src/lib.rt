@@ -1,9 +1,11 @@
-// The words of a line, which blanks and tabs set apart.
+// The words of a line, which blanks and tabs set apart, and what they say.
 ghost use mathlib.Core.Path.{_≡_};
 ghost use Prim.Native.Nat.{_+_, _-_, _/_, _≤_};
 ghost use lib.Dec.{eqb};
 ghost use lib.ListN.{length};
 ghost use Rattle.words.specs.Words.{Within};
+use numerals::ByteWord;
+use numerals::NumberWord;
 
 // Where a word starts, and where it ends: at the line's end with nothing between, where no word is left.
 pub struct Word {
@@ -77,7 +79,7 @@ pub fn next_word(line: &[u8], from: usize) -> Word
 }
 
 // A word has the bytes of a name, which blanks fill up.
-fn is_name(word: &[u8], name: &[u8]) -> bool {
+pub fn is_name(word: &[u8], name: &[u8]) -> bool {
     if name.len() < word.len() {
         return false;
     }
@@ -130,4 +132,31 @@ pub fn after_name(line: &[u8], from: usize, name: &[u8; 8]) -> usize
         return word.end;
     }
     from
+}
+
+// What a word says where a byte is expected.
+pub fn byte_at(line: &[u8], word: Word) -> ByteWord
+    requires { ⌜ (word .start ≤ word .end) × (word .end ≤ length (now line)) ⌝ }
+{
+    let start = word.start;
+    let end = word.end;
+    numerals::read_byte(&line[start..end])
+}
+
+// Where a decimal number is.
+pub fn number_at(line: &[u8], word: Word) -> NumberWord
+    requires { ⌜ (word .start ≤ word .end) × (word .end ≤ length (now line)) ⌝ }
+{
+    let start = word.start;
+    let end = word.end;
+    numerals::read_decimal(&line[start..end])
+}
+
+// Where a key is.
+pub fn key_at(line: &[u8], word: Word) -> NumberWord
+    requires { ⌜ (word .start ≤ word .end) × (word .end ≤ length (now line)) ⌝ }
+{
+    let start = word.start;
+    let end = word.end;
+    numerals::read_key(&line[start..end])
 }

@@ -1,14 +1,16 @@
--- `numerals::grow` meets its contract. The test is the definition's.
+-- `numerals::grow` meets its contract. The test is the definition's; a base is at most 16, so that the sum has 32 bits.
 use borrow.Author.Tests.{lt-ltb, le-ltb}
+use native.Mathlib.Nat.{mul-le-mul-left}
+use native.Mathlib.Omega.{arith}
 use borrow.Author.Needs.{needs}
 use Rattle.numerals.proofs.grow.Statement.{statement}
 use Rattle.numerals.proofs.grow.Tie as tie
 
 mul-result : tie.Need-mul-result
-mul-result c = search needs
+mul-result c = omega (arith, c .if1 .taken, mul-le-mul-left (c .before .args .number) (c .before .pre .1))
 
 add-result : tie.Need-add-result
-add-result c = search needs
+add-result c = omega (arith, c .if1 .taken, c .before .pre .0, c .before .pre .1, mul-le-mul-left (c .before .args .number) (c .before .pre .1))
 
 returns : tie.Need-returns
 returns c = rw (lt-ltb _ _ (c .if1 .taken))
