@@ -23,7 +23,7 @@ use Rattle.bus.specs.EventCall.{eventReplyOf, eventTells}
 use Rattle.bus.proofs.Call.{refusal-of}
 use Rattle.board_record.specs.declared.Board.{Board}
 use Rattle.board_record.specs.Record.{startsAnew}
-use Rattle.board.specs.Board.{onChip, steps, boardTo, boardAnswer, firmwareAt, boardStep, stepChecked, stepBuffer}
+use Rattle.board.specs.Board.{onChip, steps, boardTo, boardAnswer, firmwareAt, stepChecked, stepBuffer}
 use Rattle.board.specs.Board.{stepTells}
 use Rattle.board.proofs.Numbers.{step-refusal}
 use Rattle.classroom_record.specs.declared.Desk.{Desk}

@@ -1,5 +1,5 @@
 -- A class, worked out by hand from document 02, Ask 3: each call with what it answers, from the classroom in which all desks are closed.
-use mathlib.Core.List.{List, [], _∷_, _++_}
+use mathlib.Core.List.{List, [], _∷_}
 use mathlib.Core.Bool.{false}
 use Prim.Native.Nat.{ℕ}
 use lib.ListN.{length, replicate, take}
@@ -19,7 +19,6 @@ use Rattle.board.specs.declared.StepReply.{StepReply}
 use Rattle.board.specs.declared.StepReply.the-variants as step
 use Rattle.classroom_record.specs.declared.DeskNumber.{DeskNumber}
 use Rattle.classroom_record.specs.declared.Classroom.{Classroom}
-use Rattle.classroom_record.specs.Record.{allClosed}
 use Rattle.classroom.specs.Calls.{openAnswer, closeAnswer, deskTransfer, transferLent, deskEvent, deskStep}
 
 -- a call with its answer; a transfer is lent 8 bytes, of which the first are shown, an event none and a step 64

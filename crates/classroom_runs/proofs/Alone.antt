@@ -1,15 +1,14 @@
 -- An open desk answers as if it were alone in the classroom, until it is closed.
-use mathlib.Core.Path.{_≡_, refl, sym, ap, _∙_, subst}
-use mathlib.Core.Bool.{Bool, true, false, not, cond, _&&_}
+use mathlib.Core.Path.{_≡_, refl, ap, _∙_}
+use mathlib.Core.Bool.{Bool, true, false, not, cond}
 use mathlib.Core.List.{List, [], _∷_}
-use Prim.Native.Nat.{ℕ}
 use borrow.Author.Tests.{not-true}
 use Rattle.bits.proofs.Cases.{and-true}
 use Rattle.classroom_record.specs.declared.Desk.{Desk}
 use Rattle.classroom_record.specs.declared.DeskNumber.{DeskNumber}
 use Rattle.classroom_record.specs.declared.Classroom.{Classroom}
 use Rattle.classroom_record.specs.Record.{isDesk, isOpen, deskAt, keyInUse}
-use Rattle.classroom_runs.specs.Orders.{Order, keyOf, responseBy, responseOf, orderTo, Heard, classTo, classHistory, names, sentTo, heardAt}
+use Rattle.classroom_runs.specs.Orders.{Order, keyOf, responseBy, responseOf, orderTo, Heard, classHistory, names, sentTo, heardAt}
 use Rattle.classroom_runs.specs.Orders.{isClosing, unclosed}
 use Rattle.classroom_runs.proofs.Step.{Sixteen, stays-sixteen, step-other, foundBy, deskBy, step-own, open-found, stays-open}
 

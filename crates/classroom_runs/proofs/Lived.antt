@@ -1,5 +1,5 @@
 -- What a desk holds: a closed desk's records, or those that the calls since its last accepted opening make of the records of power-on.
-use mathlib.Core.Path.{_≡_, refl, sym, _∙_, subst}
+use mathlib.Core.Path.{_≡_, refl, sym, subst}
 use mathlib.Core.Bool.{Bool, true, false, cond}
 use mathlib.Core.List.{List, [], _∷_, _++_, map}
 use Prim.Native.Nat.{ℕ}
@@ -18,7 +18,7 @@ use Rattle.classroom_record.specs.declared.DeskNumber.{DeskNumber}
 use Rattle.classroom_record.specs.declared.Classroom.{Classroom}
 use Rattle.classroom_record.specs.Record.{isDesk, closedDesk, allClosed, deskAt, keyInUse}
 use Rattle.classroom.specs.Calls.{openingGrounds, callingGrounds}
-use Rattle.classroom_runs.specs.Orders.{PupilCall, boardCall, Order, opens, closes, calls, keyOf, responseBy, responseOf, orderTo, Heard}
+use Rattle.classroom_runs.specs.Orders.{PupilCall, boardCall, Order, opens, closes, calls, keyOf, responseBy, responseOf, orderTo}
 use Rattle.classroom_runs.specs.Orders.{classTo, classHistory, names, heardAt, noteOrder, callsSince}
 use Rattle.classroom_runs.proofs.Step.{Sixteen, stays-sixteen, step-other, foundBy, deskBy, step-own}
 

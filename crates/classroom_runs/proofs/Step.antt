@@ -1,7 +1,7 @@
 -- What one order does: to a desk that it does not name, and to the desk that it names.
-use mathlib.Core.Path.{_≡_, refl, sym, ap, _∙_, subst}
+use mathlib.Core.Path.{_≡_, refl, sym, _∙_, subst}
 use mathlib.Core.Bool.{Bool, true, false}
-use Prim.Native.Nat.{ℕ, _<_}
+use Prim.Native.Nat.{_<_}
 use native.Mathlib.Omega.{arith}
 use lib.Dec.{eqb}
 use lib.ListN.{length, length-set}
@@ -15,7 +15,7 @@ use Rattle.classroom_record.specs.declared.DeskNumber.{DeskNumber}
 use Rattle.classroom_record.specs.declared.Classroom.{Classroom}
 use Rattle.classroom_record.specs.Record.{isDesk, isOpen, closedDesk, deskAt, keyInUse}
 use Rattle.classroom.specs.Calls.{unlessRefusedDesk}
-use Rattle.classroom_runs.specs.Orders.{Order, opens, closes, calls, Response, deskOf, keyOf, orderGrounds, orderChecked, deskTo}
+use Rattle.classroom_runs.specs.Orders.{Order, opens, closes, calls, deskOf, keyOf, orderGrounds, orderChecked, deskTo}
 use Rattle.classroom_runs.specs.Orders.{responseBy, responseOf, orderTo, names, isClosing}
 
 -- sixteen desks

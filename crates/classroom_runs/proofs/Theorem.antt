@@ -1,7 +1,7 @@
 -- For every list of orders from the start, refused ones included: desks do not interfere; demand 3 at every desk, and what a call there
 -- is told, from its last accepted opening as from a power-on; every classroom reached is sound.
 use mathlib.Core.Path.{_≡_, refl, sym, ap, _∙_, subst}
-use mathlib.Core.Bool.{Bool, true, false, not, _&&_, _||_}
+use mathlib.Core.Bool.{Bool, true, false, not, _||_}
 use mathlib.Core.List.{List, [], _∷_, map}
 use Prim.Native.Nat.{ℕ, zero, suc, _<_}
 use native.Mathlib.Omega.{arith}
@@ -13,7 +13,6 @@ use Rattle.refusal.specs.declared.Refusal.the-variants.{Unsound, NoDesk, DeskSt
 use Rattle.refusal.specs.declared.Checked.the-variants.{Accepted, Refused}
 use Rattle.refusal.specs.Check.{check, checkedNumber}
 use Rattle.refusal.proofs.Check.{accepted-none}
-use Rattle.chip.specs.declared.Chip.{Chip}
 use Rattle.chip.specs.Record.{powerOnChip}
 use Rattle.chip.specs.Same.{sameChip}
 use Rattle.chip.proofs.Same.{same-chip}

@@ -1,6 +1,5 @@
 -- What the classroom's calls hand back, as the response that the theorems speak of.
 use mathlib.Core.Path.{_≡_}
-use mathlib.Core.List.{List}
 use Prim.Native.Nat.{ℕ}
 use lib.ListN.{length}
 use Rattle.refusal.specs.declared.Refusal.{Refusal}
@@ -10,7 +9,6 @@ use Rattle.chip.specs.declared.Pin.the-variants.{Open}
 use Rattle.spi.specs.declared.TransferReply.the-variants as transfer
 use Rattle.event_answer.specs.declared.EventReply.the-variants as event
 use Rattle.board.specs.declared.StepReply.the-variants as step
-use Rattle.model.specs.Call.{Call}
 use Rattle.model.specs.Call as model
 use Rattle.classroom_record.specs.declared.DeskNumber.{DeskNumber}
 use Rattle.classroom_record.specs.declared.Classroom.{Classroom}

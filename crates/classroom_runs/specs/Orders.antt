@@ -10,7 +10,7 @@ use Rattle.refusal.specs.declared.Checked.the-variants.{Accepted, Refused}
 use Rattle.refusal.specs.Check.{check}
 use Rattle.chip.specs.declared.Pin.{Pin}
 use Rattle.model.specs.declared.Event.{Event}
-use Rattle.model.specs.Call.{Call, transfer, event, bufferAfter}
+use Rattle.model.specs.Call.{transfer, event, bufferAfter}
 use Rattle.spi.specs.declared.TransferReply.{TransferReply}
 use Rattle.event_answer.specs.declared.EventReply.{EventReply}
 use Rattle.board_record.specs.declared.Board.{Board}
@@ -20,7 +20,7 @@ use Rattle.board.specs.Board as board
 use Rattle.classroom_record.specs.declared.Desk.{Desk}
 use Rattle.classroom_record.specs.declared.DeskNumber.{DeskNumber}
 use Rattle.classroom_record.specs.declared.Classroom.{Classroom}
-use Rattle.classroom_record.specs.Record.{closedDesk, deskAt, setDesk, keyInUse}
+use Rattle.classroom_record.specs.Record.{closedDesk, deskAt, keyInUse}
 use Rattle.classroom.specs.Calls.{openingGrounds, closingGrounds, callingGrounds, openedDesk, setBoard, unlessRefusedDesk}
 
 -- ---- what a pupil asks of his board, with the buffer that he lends for the reply, and what he is told

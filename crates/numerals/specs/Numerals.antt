@@ -42,5 +42,5 @@ unfoldable pub numberOf : ℕ → List ℕ → NumberWord
 numberOf base xs = cond (eqb (length xs) 0) NumberWord.Unreadable (numberFrom base 0 xs)
 
 -- one to eight hex digits: none of them is lost
-unfoldable pub keyOf : List ℕ → NumberWord
-keyOf xs = cond (ltb 8 (length xs)) NumberWord.Unreadable (numberOf 16 xs)
+unfoldable pub hexKeyOf : List ℕ → NumberWord
+hexKeyOf xs = cond (ltb 8 (length xs)) NumberWord.Unreadable (numberOf 16 xs)

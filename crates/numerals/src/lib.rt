@@ -3,7 +3,7 @@ ghost use mathlib.Core.Path.{_≡_};
 ghost use mathlib.Core.List.{[], _∷_};
 ghost use Prim.Native.Nat.{_<_, _≤_, _/_, _%_};
 ghost use lib.ListN.{length, getD};
-ghost use Rattle.numerals.specs.Numerals.{hexDigit, hexGlyph, byteOfDigits, byteOf, grown, numberOf, keyOf};
+ghost use Rattle.numerals.specs.Numerals.{hexDigit, hexGlyph, byteOfDigits, byteOf, grown, numberOf, hexKeyOf};
 
 // What a word says where a byte is expected.
 pub enum ByteWord {
@@ -114,7 +114,7 @@ pub fn read_decimal(word: &[u8]) -> NumberWord
 
 // A key: one to eight hex digits.
 pub fn read_key(word: &[u8]) -> NumberWord
-    ensures { λ r. ⌜ r ≡ keyOf (now (word .entry)) ⌝ }
+    ensures { λ r. ⌜ r ≡ hexKeyOf (now (word .entry)) ⌝ }
 {
     if 8 < word.len() {
         return NumberWord::Unreadable;

@@ -3,7 +3,7 @@ ghost use mathlib.Core.Path.{_≡_};
 ghost use mathlib.Core.Bool.{true};
 ghost use Prim.Native.Nat.{_≤_};
 ghost use lib.ListN.{length};
-ghost use Rattle.classroom_record.specs.Record.{isDesk};
+ghost use Rattle.classroom_record.specs.Record.{isDesk, allClosed};
 use classroom::Classroom;
 use classroom::DeskNumber;
 use console::Console;
@@ -29,7 +29,9 @@ pub struct Pupil {
 }
 
 impl Roster {
-    pub fn start() -> Self {
+    pub fn start() -> Self
+        ensures { λ r. ⌜ r .classroom ≡ allClosed ⌝ }
+    {
         Roster {
             classroom: Classroom::start(),
             rooms: [console::ROOM; 16],

@@ -91,7 +91,9 @@ const IN: u8 = 12;
 const LINES: [u8; 128] = *b"spi     power   stable  vbus    pins    reset   suspend activity\
     setup   out     in      event   step    room    show    help    ";
 
-pub fn make_fault(expected: Expected, word: Word) -> Fault {
+pub fn make_fault(expected: Expected, word: Word) -> Fault
+    ensures { λ r. ⌜ (r .start ≡ word .start) × (r .end ≡ word .end) ⌝ }
+{
     Fault {
         expected,
         start: word.start,

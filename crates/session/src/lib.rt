@@ -27,7 +27,9 @@ pub struct Session {
 }
 
 impl Session {
-    pub fn begin(fd: i32) -> Self {
+    pub fn begin(fd: i32) -> Self
+        ensures { λ r. ⌜ (r .length ≡ 0) × (r .filled ≡ 0) ⌝ }
+    {
         Session {
             fd,
             start: 0,

@@ -1,5 +1,5 @@
 -- `check_call` meets its promise: 9, then as `check_key`.
-use mathlib.Core.Path.{_≡_, sym, _∙_}
+use mathlib.Core.Path.{sym, _∙_}
 use borrow.Author.Tests.{not-false}
 use borrow.Author.Needs.{needs}
 use Rattle.classroom.proofs.check_call.Statement.{statement}

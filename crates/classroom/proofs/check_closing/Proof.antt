@@ -1,5 +1,5 @@
 -- `check_closing` meets its promise: the grounds of the definition, in their order.
-use mathlib.Core.Path.{_≡_, sym, _∙_}
+use mathlib.Core.Path.{sym, _∙_}
 use borrow.Author.Tests.{ne-eqb, not-false}
 use borrow.Author.Needs.{needs}
 use Rattle.classroom.proofs.check_closing.Statement.{statement}

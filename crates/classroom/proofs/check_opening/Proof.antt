@@ -1,7 +1,7 @@
 -- `check_opening` meets its promise: the grounds of the definition, in their order.
-use borrow.Author.Tests.{ne-eqb, not-true, not-false}
+use borrow.Author.Tests.{ne-eqb, not-false}
 use borrow.Author.Needs.{needs}
-use mathlib.Core.Path.{_≡_, sym, _∙_}
+use mathlib.Core.Path.{sym, _∙_}
 use Rattle.classroom.proofs.check_opening.Statement.{statement}
 use Rattle.classroom.proofs.check_opening.Tie as tie
 

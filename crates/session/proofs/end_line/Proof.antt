@@ -1,9 +1,7 @@
 -- `session::end_line` meets its contract: the bytes before the CR are some of the line's, and too many are not taken.
-use mathlib.Core.Path.{_≡_, sym}
+use mathlib.Core.Path.{sym}
 use Prim.Native.Nat.{_≤_}
-use lib.ListN.{length, take}
 use lib.Seq.{length-take-le}
-use native.Mathlib.Omega.{arith}
 use borrow.Author.Needs.{needs}
 use Rattle.session.proofs.end_line.Statement.{statement}
 use Rattle.session.proofs.end_line.Tie as tie
