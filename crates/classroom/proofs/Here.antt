@@ -1,9 +1,10 @@
 -- Where 9 applies, and where it does not: it is the first ground of every call.
 use mathlib.Core.Path.{_≡_, sym, _∙_}
 use mathlib.Core.Bool.{true}
+use mathlib.Core.List.{map}
 use Prim.Native.Nat.{ℕ, zero, _≤_, _<_}
 use native.Mathlib.Omega.{arith}
-use lib.ListN.{length, getD}
+use lib.ListN.{length, length-map, getD}
 use borrow.Author.Tests.{not-false, lt-ltb, le-ltb}
 use Rattle.refusal.specs.declared.Refusal.the-variants.{NoDesk}
 use Rattle.refusal.specs.declared.Checked.{Checked}
@@ -31,11 +32,17 @@ calling-here room n key e = not-false (isDesk n) (accepted-none (callingGrounds 
 pub calling-nowhere : (room : Classroom) (n : DeskNumber) (key : ℕ) → 16 ≤ n .0 → callingChecked room n key ≡ Refused NoDesk
 calling-nowhere room n key h = rw (le-ltb (n .0) 16 h)
 
--- a desk that there is, read whatever stands for those past the end
-module _ (room : Classroom) (n : DeskNumber) (sixteen : length (room .desks) ≡ 16) (h : n .0 < 16) (e : Desk) where
-  desk-read : getD (room .desks) (n .0) e ≡ deskAt room n
-  desk-read = getD-within (room .desks) (n .0) e closedDesk (omega (arith, sixteen, h))
+-- a desk that there is, read whatever stands for those past the end; the record's type says how many there are
+desk-read : {X : Type 0} (into : Desk → X) (room : Classroom) (n : DeskNumber) → length (map into (room .desks)) ≡ 16 → n .0 < 16
+    → (e : Desk) → getD (room .desks) (n .0) e ≡ deskAt room n
+desk-read into room n sixteen h e =
+    let long : length (room .desks) ≡ 16 = sym (length-map (room .desks) into) ∙ sixteen in
+    getD-within (room .desks) (n .0) e closedDesk (omega (arith, long, h))
 
-  pub calling-by : (key : ℕ) {v w : Checked} → v ≡ check (keyGrounds (getD (room .desks) (n .0) e .opened) (getD (room .desks) (n .0) e .key) key)
-      → v ≡ w → (callingChecked room n key ≡ w) × (getD (room .desks) (n .0) e ≡ deskAt room n)
-  calling-by key f g = (rw (lt-ltb (n .0) 16 h, ← desk-read) (sym f ∙ g), desk-read)
+pub calling-by : {X : Type 0} (into : Desk → X) (room : Classroom) (n : DeskNumber) → length (map into (room .desks)) ≡ 16 → n .0 < 16
+    → (e : Desk) (key : ℕ) {v w : Checked}
+    → v ≡ check (keyGrounds (getD (room .desks) (n .0) e .opened) (getD (room .desks) (n .0) e .key) key) → v ≡ w
+    → (callingChecked room n key ≡ w) × (getD (room .desks) (n .0) e ≡ deskAt room n)
+calling-by into room n sixteen h e key f g =
+    let read = desk-read into room n sixteen h e in
+    (rw (lt-ltb (n .0) 16 h, ← read) (sym f ∙ g), read)
