@@ -22,13 +22,14 @@ use Rattle.chip.specs.declared.Chip.{Chip}
 use Rattle.chip.specs.Mask.{out0davirq}
 use Rattle.chip.specs.Set.{setEp0, setEp1, setEp2, setEp3}
 use Rattle.model.specs.Reply.{Outcome, outcome}
-use Rattle.rules.specs.Write.{storeFifo}
+use Rattle.model.specs.Spi.{burstTo}
+use Rattle.rules.specs.Write.{storeFifo, ep0Busy}
 use Rattle.rules.specs.Read.{readFifo, ep0At}
 use Rattle.rules.specs.Spi.{stepRegister, max3420eSpi}
 use Rattle.fifos.specs.Fifo.{positionTo}
 use Rattle.fifos.proofs.Read.{fifo-gives, fifo-state}
-use Rattle.bursts.specs.Burst.{Filling, filling, limitOf, fillTo, fillingSpi, packetSpi, Burst}
-use Rattle.bursts.proofs.Part.{put-back}
+use Rattle.bursts.specs.Burst.{Filling, filling, limitOf, fillTo, packetSpi, Burst, ep0fifo, ep2infifo, ep3infifo, fifoStored}
+use Rattle.bursts.proofs.Part.{part-to, put-back}
 
 -- a limit of 0 ignores every byte, as a buffer that is the chip's does
 stores : {R : Type 0} (put : Filling → R) (busy : Bool) (start : ℕ) (s : Filling) (b : ℕ)
@@ -57,56 +58,26 @@ byte-within packet p byte same =
 abbrev readAt : (ℕ → Chip) → ℕ → ℕ → ℕ → Outcome Chip ℕ
 readAt put end p byte = readFifo (ltb p end) byte (put (p + 1)) (put p)
 
--- ---- the endpoints
+-- ---- writes: the bytes stored one by one, put back, are the burst on the record
 
--- buffers and a write position in the place of an endpoint's
-abbrev ep2Filled : Endpoint2 → Chip → Filling → Chip
-ep2Filled e c s =
-    setEp2 (record { ring = withBytes (e .ring) (s .bytes); count = e .count; writepos = s .position; toggle = e .toggle }) c
+pub written-ep0 : (c : Chip) (bs : List ℕ) → fifoStored ep0fifo c bs ≡ burstTo max3420eSpi c true 0 bs
+written-ep0 c bs =
+    part-to max3420eSpi (fillTo 0 (limitOf (ep0Busy c))) (λ s. outcome s 0) (ep0fifo .put c) true 0 refl
+    (stores-first (ep0fifo .put c) (ep0Busy c)) bs (ep0fifo .state c)
 
-pub written-ep2 : (c : Chip) (e : Endpoint2) (bytes reply out : List ℕ) (after : Filling)
-    → Burst (fillingSpi (nextBuffer 2 (e .ring) * 64) (limitOf (full 2 (e .ring)))) (filling (e .ring .bytes) (e .writepos)) after true 0
-    bytes reply out
-    → Burst max3420eSpi (setEp2 e c) (ep2Filled e c after) true 2 bytes reply out
-written-ep2 c e bytes reply out after =
-    put-back max3420eSpi (fillTo (nextBuffer 2 (e .ring) * 64) (limitOf (full 2 (e .ring)))) (λ s. outcome s 0) (ep2Filled e c) true 2 refl
-    (stores (ep2Filled e c) (full 2 (e .ring)) (nextBuffer 2 (e .ring) * 64)) (λ s. refl) bytes reply out
-    (filling (e .ring .bytes) (e .writepos)) after
+pub written-ep2 : (c : Chip) (bs : List ℕ) → fifoStored ep2infifo c bs ≡ burstTo max3420eSpi c true 2 bs
+written-ep2 c bs =
+    let start = ep2infifo .start c in
+    let chips = ep2infifo .chips c in
+    part-to max3420eSpi (fillTo start (limitOf chips)) (λ s. outcome s 0) (ep2infifo .put c) true 2 refl
+    (stores (ep2infifo .put c) chips start) bs (ep2infifo .state c)
 
-abbrev ep0Filled : Endpoint0 → Chip → Filling → Chip
-ep0Filled e c s =
-    setEp0 (record {
-      bytes = s .bytes;
-      setup = e .setup;
-      count = e .count;
-      armed = e .armed;
-      readpos = e .readpos;
-      writepos = s .position;
-      setuppos = e .setuppos;
-      intoggle = e .intoggle;
-      outtoggle = e .outtoggle;
-      current = e .current;
-    }) c
+pub written-ep3 : (c : Chip) (bs : List ℕ) → fifoStored ep3infifo c bs ≡ burstTo max3420eSpi c true 3 bs
+written-ep3 c bs =
+    part-to max3420eSpi (fillTo 0 (limitOf (ep3infifo .chips c))) (λ s. outcome s 0) (ep3infifo .put c) true 3 refl
+    (stores-first (ep3infifo .put c) (ep3infifo .chips c)) bs (ep3infifo .state c)
 
-pub written-ep0 : (c : Chip) (e : Endpoint0) (dav : Bool) (bytes reply out : List ℕ) (after : Filling)
-    → has (c .registers .epirq) out0davirq ≡ dav
-    → Burst (fillingSpi 0 (limitOf (isOn (e .armed) || dav))) (filling (e .bytes) (e .writepos)) after true 0 bytes reply out
-    → Burst max3420eSpi (setEp0 e c) (ep0Filled e c after) true 0 bytes reply out
-written-ep0 c e dav bytes reply out after same =
-    put-back max3420eSpi (fillTo 0 (limitOf (isOn (e .armed) || dav))) (λ s. outcome s 0) (ep0Filled e c) true 0 refl
-    (λ s b. rw same (stores-first (ep0Filled e c) (isOn (e .armed) || dav) s b)) (λ s. refl) bytes reply out
-    (filling (e .bytes) (e .writepos)) after
-
-abbrev ep3Filled : Endpoint3 → Chip → Filling → Chip
-ep3Filled e c s =
-    setEp3 (record { bytes = s .bytes; count = e .count; armed = e .armed; writepos = s .position; toggle = e .toggle }) c
-
-pub written-ep3 : (c : Chip) (e : Endpoint3) (bytes reply out : List ℕ) (after : Filling)
-    → Burst (fillingSpi 0 (limitOf (isOn (e .armed)))) (filling (e .bytes) (e .writepos)) after true 0 bytes reply out
-    → Burst max3420eSpi (setEp3 e c) (ep3Filled e c after) true 3 bytes reply out
-written-ep3 c e bytes reply out after =
-    put-back max3420eSpi (fillTo 0 (limitOf (isOn (e .armed)))) (λ s. outcome s 0) (ep3Filled e c) true 3 refl
-    (stores-first (ep3Filled e c) (isOn (e .armed))) (λ s. refl) bytes reply out (filling (e .bytes) (e .writepos)) after
+-- ---- reads
 
 -- a register whose read gives a byte of a packet and moves on within it
 read-back : (n : ℕ) → stepRegister n ≡ n → (put : ℕ → Chip) (packet : List ℕ) (byte : ℕ → ℕ)

@@ -1,2 +1,4 @@
 pub mod Part
 pub mod Fifo
+pub mod Copied
+pub mod AtOnce

@@ -1,20 +1,21 @@
 // The data bytes of a burst at R0 to R4, on the endpoint that the register belongs to (document 01, "Writes" and "Reads"). The buffer
-// is copied once for a burst, not for each byte.
+// is taken out and put back once for a burst, not for each byte.
 use chip::Endpoint0;
 use chip::Endpoint1;
 use chip::Endpoint2;
 use chip::Endpoint3;
 ghost use mathlib.Core.Path.{_≡_};
 ghost use mathlib.Core.Bool.{true, false};
-ghost use Prim.Native.Nat.{_+_, _<_, _≤_};
+ghost use Prim.Native.Nat.{_+_, _<_, _≤_, min};
 ghost use lib.ListN.{length, getD};
 ghost use Rattle.bits.specs.Bit.{has};
 ghost use Rattle.ring.specs.Ring.{oldestCount};
 ghost use Rattle.chip.specs.declared.Chip.{Chip};
 ghost use Rattle.chip.specs.Mask.{out0davirq};
 ghost use Rattle.chip.specs.Set.{setEp0, setEp1, setEp2, setEp3};
+ghost use Rattle.model.specs.Spi.{burstTo};
 ghost use Rattle.rules.specs.Spi.{max3420eSpi};
-ghost use Rattle.bursts.specs.Burst.{filling, limitOf, fillTo, fillingSpi, packetSpi, Burst};
+ghost use Rattle.bursts.specs.Burst.{filling, limitOf, storedTo, packetSpi, Burst};
 
 // ---- writes
 
@@ -25,67 +26,67 @@ fn limit_of(busy: bool) -> u8
     if busy { 0 } else { 64 }
 }
 
-// A byte stored in the buffer that starts here; the write position after.
-fn store(buffers: &mut [u8], start: usize, limit: u8, position: u8, byte: u8) -> u8
+// How many of so many bytes are stored where there is room.
+fn fitting(room: u8, count: usize) -> usize
+    ensures { λ r. ⌜ (r ≡ min room count) × (r ≤ room) × (r ≤ count) ⌝ }
+{
+    if (room as usize) < count {
+        return room as usize;
+    }
+    count
+}
+
+// Bytes sent to the buffer that starts here, below the limit: those that fit are copied at once; the write position after.
+fn copy_fitting(buffers: &mut [u8], start: usize, limit: u8, position: u8, sent: &[u8]) -> u8
+    requires { ⌜ (start + limit ≤ length (now buffers)) × (limit ≤ 64) × (position < limit) ⌝ }
+    ensures { λ r. ⌜ filling (now (buffers .exit)) r
+        ≡ storedTo start limit (filling (now (buffers .entry)) position) (now (sent .entry)) ⌝ }
+{
+    let count = sent.len();
+    let stored = fitting(limit - position, count);
+    let at = start + position as usize;
+    bytes::copy(&sent[0..stored], &mut buffers[at..]);
+    position + stored as u8
+}
+
+// Bytes sent to the buffer that starts here; the write position after. One alone, as most bursts have, costs less than a copy.
+fn store_all(buffers: &mut [u8], start: usize, limit: u8, position: u8, sent: &[u8]) -> u8
     requires { ⌜ (start + limit ≤ length (now buffers)) × (limit ≤ 64) ⌝ }
-    ensures { λ r. ⌜ (filling (now (buffers .exit)) r ≡ fillTo start limit (filling (now (buffers .entry)) position) byte) ⌝ }
+    ensures { λ r. ⌜ filling (now (buffers .exit)) r
+        ≡ storedTo start limit (filling (now (buffers .entry)) position) (now (sent .entry)) ⌝ }
 {
     if limit <= position {
         return position;
     }
-    buffers[start + position as usize] = byte;
-    position + 1
-}
-
-// The data bytes, one after the other; the write position after.
-fn store_all(
-    buffers: &mut [u8],
-    start: usize,
-    limit: u8,
-    writepos: u8,
-    bytes: &[u8],
-    reply: &mut [u8],
-) -> u8
-    requires { ⌜ (start + limit ≤ length (now buffers)) × (limit ≤ 64)
-        × (0 < length (now bytes)) × (length (now bytes) ≤ length (now reply)) ⌝ }
-    ensures { λ r. ⌜ Burst (fillingSpi start limit) (filling (now (buffers .entry)) writepos) (filling (now (buffers .exit)) r)
-        true 0 (now (bytes .entry)) (now (reply .entry)) (now (reply .exit)) ⌝ }
-{
-    let mut position = writepos;
-    let mut i = 1;
-    while i < bytes.len() {
-        position = store(buffers, start, limit, position, bytes[i]);
-        reply[i] = 0;
-        i += 1;
+    if sent.len() == 1 {
+        buffers[start + position as usize] = sent[0];
+        return position + 1;
     }
-    position
+    copy_fitting(buffers, start, limit, position, sent)
 }
 
 // R0; `dav` where OUT0DAVIRQ=1.
-pub fn write_ep0(mut endpoint: Endpoint0, dav: bool, bytes: &[u8], reply: &mut [u8]) -> Endpoint0
-    requires { ⌜ (0 < length (now bytes)) × (length (now bytes) ≤ length (now reply)) ⌝ }
+pub fn write_ep0(mut endpoint: Endpoint0, dav: bool, sent: &[u8]) -> Endpoint0
     ensures { λ r. ⌜ ((c : Chip) → has (c .registers .epirq) out0davirq ≡ dav
-        → Burst max3420eSpi (setEp0 endpoint c) (setEp0 r c) true 0 (now (bytes .entry)) (now (reply .entry)) (now (reply .exit))) ⌝ }
+        → setEp0 r c ≡ burstTo max3420eSpi (setEp0 endpoint c) true 0 (now (sent .entry))) ⌝ }
 {
     let mut buffer = endpoint.bytes;
     let limit = limit_of((endpoint.armed == 1) | dav);
-    let position = store_all(&mut buffer, 0, limit, endpoint.writepos, bytes, reply);
+    let position = store_all(&mut buffer, 0, limit, endpoint.writepos, sent);
     endpoint.bytes = buffer;
     endpoint.writepos = position;
     endpoint
 }
 
 // R2
-pub fn write_ep2(mut endpoint: Endpoint2, bytes: &[u8], reply: &mut [u8]) -> Endpoint2
-    requires { ⌜ (0 < length (now bytes)) × (length (now bytes) ≤ length (now reply)) ⌝ }
-    ensures { λ r. ⌜ ((c : Chip)
-        → Burst max3420eSpi (setEp2 endpoint c) (setEp2 r c) true 2 (now (bytes .entry)) (now (reply .entry)) (now (reply .exit))) ⌝ }
+pub fn write_ep2(mut endpoint: Endpoint2, sent: &[u8]) -> Endpoint2
+    ensures { λ r. ⌜ ((c : Chip) → setEp2 r c ≡ burstTo max3420eSpi (setEp2 endpoint c) true 2 (now (sent .entry))) ⌝ }
 {
     let mut ring = endpoint.ring;
     let start = ring.next_buffer() * 64;
     let limit = limit_of(2 <= ring.waiting);
     let mut buffers = ring.bytes;
-    let position = store_all(&mut buffers, start, limit, endpoint.writepos, bytes, reply);
+    let position = store_all(&mut buffers, start, limit, endpoint.writepos, sent);
     ring.bytes = buffers;
     endpoint.ring = ring;
     endpoint.writepos = position;
@@ -93,14 +94,12 @@ pub fn write_ep2(mut endpoint: Endpoint2, bytes: &[u8], reply: &mut [u8]) -> End
 }
 
 // R3
-pub fn write_ep3(mut endpoint: Endpoint3, bytes: &[u8], reply: &mut [u8]) -> Endpoint3
-    requires { ⌜ (0 < length (now bytes)) × (length (now bytes) ≤ length (now reply)) ⌝ }
-    ensures { λ r. ⌜ ((c : Chip)
-        → Burst max3420eSpi (setEp3 endpoint c) (setEp3 r c) true 3 (now (bytes .entry)) (now (reply .entry)) (now (reply .exit))) ⌝ }
+pub fn write_ep3(mut endpoint: Endpoint3, sent: &[u8]) -> Endpoint3
+    ensures { λ r. ⌜ ((c : Chip) → setEp3 r c ≡ burstTo max3420eSpi (setEp3 endpoint c) true 3 (now (sent .entry))) ⌝ }
 {
     let mut buffer = endpoint.bytes;
     let limit = limit_of(endpoint.armed == 1);
-    let position = store_all(&mut buffer, 0, limit, endpoint.writepos, bytes, reply);
+    let position = store_all(&mut buffer, 0, limit, endpoint.writepos, sent);
     endpoint.bytes = buffer;
     endpoint.writepos = position;
     endpoint

@@ -1,3 +1,2 @@
 pub mod Sends
-pub mod Message
 pub mod Setup

@@ -87,27 +87,13 @@ fn write_endpoints(chip: Chip, endpoints: Endpoints, epstalls: u8, clrtogs: u8) 
     }
 }
 
-// The command byte that writes R0, and n bytes.
-fn message_of(bytes: &[u8], n: usize) -> [u8; 65]
-    requires { ⌜ (n ≤ 64) × (64 ≤ length (now bytes)) ⌝ }
-    ensures { λ r. ⌜ take (n + 1) r ≡ 0x02 ∷ take n (now (bytes .entry)) ⌝ }
-{
-    let mut message = [0u8; 65];
-    message[0] = 0x02;
-    bytes::copy(&bytes[0..n], &mut message[1..]);
-    message
-}
-
 // Bytes to R0, written to the endpoint itself.
 fn fill(mut chip: Chip, bytes: &[u8], n: usize) -> Chip
     requires { ⌜ (soundChip chip ≡ true) × (n ≤ 64) × (64 ≤ length (now bytes)) ⌝ }
     ensures { λ r. ⌜ r ≡ callTo max3420e chip (sends (0x02 ∷ take n (now (bytes .entry)))) ⌝ }
 {
-    let message = message_of(bytes, n);
-    let end = n + 1;
-    let mut reply = [0u8; 65];
     let dav = chip.registers.epirq & Chip::OUT0DAVIRQ != 0;
-    let endpoint = bursts::write_ep0(chip.ep0, dav, &message[0..end], &mut reply[0..end]);
+    let endpoint = bursts::write_ep0(chip.ep0, dav, &bytes[0..n]);
     chip.ep0 = endpoint;
     chip
 }

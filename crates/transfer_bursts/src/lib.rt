@@ -5,11 +5,26 @@ use reset::Reset;
 ghost use mathlib.Core.Path.{_≡_};
 ghost use mathlib.Core.Bool.{true, false};
 ghost use Prim.Native.Nat.{_<_, _≤_};
-ghost use lib.ListN.{length};
+ghost use lib.ListN.{length, replicate};
 ghost use Rattle.ring.specs.Ring.{oldestCount};
 ghost use Rattle.rules.specs.Spi.{max3420eSpi};
 ghost use Rattle.bursts.specs.Burst.{Burst};
 ghost use Rattle.transfer_bursts.specs.Control.{WritesNoFifo, ReadsNoFifo};
+
+// The reply bytes of a write to a FIFO are 0. One alone costs less by itself, as in crate bursts.
+fn clear(reply: &mut [u8])
+    ensures { λ r. ⌜ now (reply .exit) ≡ replicate (length (now (reply .entry))) 0 ⌝ }
+{
+    if reply.len() == 1 {
+        reply[0] = 0;
+        return;
+    }
+    let mut i = 0;
+    while i < reply.len() {
+        reply[i] = 0;
+        i += 1;
+    }
+}
 
 // The data bytes of a write from a control register on, one after the other. The record stays in its place: a call that takes and
 // returns it would copy it for each byte.
@@ -52,20 +67,25 @@ fn write_burst(mut chip: Chip, register: u8, bytes: &[u8], reply: &mut [u8]) -> 
     requires { ⌜ (0 < length (now bytes)) × (length (now bytes) ≤ length (now reply)) ⌝ }
     ensures { λ r. ⌜ Burst max3420eSpi chip r true register (now (bytes .entry)) (now (reply .entry)) (now (reply .exit)) ⌝ }
 {
+    let count = bytes.len();
+    let sent = &bytes[1..count];
     match register {
         0 => {
+            clear(&mut reply[1..count]);
             let dav = chip.registers.epirq & Chip::OUT0DAVIRQ != 0;
-            let endpoint = bursts::write_ep0(chip.ep0, dav, bytes, reply);
+            let endpoint = bursts::write_ep0(chip.ep0, dav, sent);
             chip.ep0 = endpoint;
             chip
         }
         2 => {
-            let endpoint = bursts::write_ep2(chip.ep2, bytes, reply);
+            clear(&mut reply[1..count]);
+            let endpoint = bursts::write_ep2(chip.ep2, sent);
             chip.ep2 = endpoint;
             chip
         }
         3 => {
-            let endpoint = bursts::write_ep3(chip.ep3, bytes, reply);
+            clear(&mut reply[1..count]);
+            let endpoint = bursts::write_ep3(chip.ep3, sent);
             chip.ep3 = endpoint;
             chip
         }

@@ -1,71 +1,60 @@
--- `store_all` meets its promise. The law of the byte loop, on the buffers and the position.
-use mathlib.Core.Path.{_≡_, refl, _∙_}
-use mathlib.Core.Bool.{true}
-use Prim.Native.Nat.{_-_}
+-- `store_all` meets its promise. At the limit nothing is stored; else a byte alone, or all by a copy.
+use mathlib.Core.Path.{sym}
 use native.Mathlib.Omega.{arith}
-use lib.ListN.{length}
+use denote.Ref.{now}
 use borrow.Author.Needs.{needs}
-use Rattle.model.proofs.Loop.{Turn, start, turn, finish}
-use Rattle.bursts.specs.Burst.{filling, fillingSpi}
+use Rattle.bursts.specs.Burst.{filling}
+use Rattle.bursts.proofs.Copied.{stores-none, one-stored}
 use Rattle.bursts.proofs.store_all.Statement.{statement}
 use Rattle.bursts.proofs.store_all.Tie as tie
 
-abbrev Inv-loop : tie.InvT-loop
-Inv-loop buffers₀ start limit writepos bytes reply₀ position₀ i₀ buffers reply position i =
-    (length buffers ≡ length buffers₀)
-    × Turn (fillingSpi start limit) true bytes reply₀ 1 (filling buffers₀ position₀) 0 reply (filling buffers position) 0 i
+returns : tie.Need-returns
+returns c =
+    let a = c .before .before .before .args in
+    sym (stores-none (a .start) (a .limit) (now (a .sent)) (filling (now (a .buffers)) (a .position))
+    (omega (arith, c .if1 .taken)))
 
-abbrev μ-loop : tie.MeasureT-loop
-μ-loop buffers₀ start limit writepos bytes reply₀ position₀ i₀ buffers reply position i = length bytes - i
+shared-slice-read-buffers : tie.Need-shared-slice-read-buffers
+shared-slice-read-buffers c = search needs
 
-loop-holds : tie.Need-loop-holds Inv-loop μ-loop
-loop-holds c = (refl, start (fillingSpi _ _) _ _ _ _ _ _ (omega arith))
+add-buffers : tie.Need-add-buffers
+add-buffers c = search needs
 
-shared-slice-read-store : tie.Need-shared-slice-read-store Inv-loop μ-loop
-shared-slice-read-store c = search needs
+slice-write-buffers : tie.Need-slice-write-buffers
+slice-write-buffers c = search needs
 
-store-requires : tie.Need-store-requires Inv-loop μ-loop
-store-requires c κs = search needs
+add-result : tie.Need-add-result
+add-result c = search needs
 
-slice-write-reply : tie.Need-slice-write-reply Inv-loop μ-loop
-slice-write-reply c = search needs
+same-length : tie.Need-same-length
+same-length c = search needs
 
-add-i : tie.Need-add-i Inv-loop μ-loop
-add-i c = search needs
+returns-2 : tie.Need-returns-2
+returns-2 c =
+    let a = c .before .before .before .before .before .args in
+    one-stored (a .start) (a .limit) (now (a .sent)) (filling (now (a .buffers)) (a .position)) (c .before .before .if1 .left)
+    (c .before .if2 .taken)
 
-loop-less : tie.Need-loop-less Inv-loop μ-loop
-loop-less c = search needs
+copy-fitting-requires : tie.Need-copy-fitting-requires
+copy-fitting-requires c κs = search needs
 
-loop-again : tie.Need-loop-again Inv-loop μ-loop
-loop-again c =
-    let l = c .before .before .before .before .before .before .loop in (
-      c .before .buffers .given ∙ l .inv .0,
-      rw (c .before .before .store .ensures)
-          (turn (fillingSpi _ _) _ _ _ _ _ _ _ _ _ _ (l .inv .1) (omega arith) (omega arith)),
-    )
+same-length-2 : tie.Need-same-length-2
+same-length-2 c = search needs
 
-same-length : tie.Need-same-length Inv-loop μ-loop
-same-length c = c .before .loop .inv .0
-
-same-length-2 : tie.Need-same-length-2 Inv-loop μ-loop
-same-length-2 c = c .before .loop .inv .1 .sized
-
-returns : tie.Need-returns Inv-loop μ-loop
-returns c = finish (fillingSpi _ _) _ _ _ _ _ _ _ _ _ _ (c .before .loop .inv .1) (c .loop-test .left)
+returns-3 : tie.Need-returns-3
+returns-3 c = c .before .before .copy-fitting .ensures
 
 pub store-all-spec : {M : Type 1} → statement M
 store-all-spec =
     tie.close
     (tie.spec
-    Inv-loop
-    μ-loop
-    loop-holds
-    shared-slice-read-store
-    store-requires
-    slice-write-reply
-    add-i
-    loop-less
-    loop-again
+    returns
+    shared-slice-read-buffers
+    add-buffers
+    slice-write-buffers
+    add-result
     same-length
+    returns-2
+    copy-fitting-requires
     same-length-2
-    returns)
+    returns-3)
