@@ -2,6 +2,7 @@
 //! orders to a classroom.
 
 mod built;
+mod bursts;
 mod classes;
 mod enumeration;
 mod parts;
@@ -13,6 +14,7 @@ mod tables;
 mod walk;
 
 pub use built::built;
+pub use bursts::{any_burst, burst_states, two_bursts};
 pub use classes::{class, class_list, same_at_one_desk, unsound_class, Order, KEY, OPENED};
 pub use enumeration::{enumeration, request_pairs};
 pub use parts::*;

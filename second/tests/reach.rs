@@ -27,6 +27,9 @@ fn play(list: &[Call], counts: &mut Counts) {
                 counts.add(format!("transfer refusal {}", answer.refusal));
                 note_write(&chip, bytes, counts);
                 note_bav(&chip, bytes, counts);
+                if answer.refusal == 0 {
+                    note_burst(&chip, bytes, counts);
+                }
                 chip = answer.chip;
             }
             Call::Event { event, payload, .. } => {
@@ -64,6 +67,37 @@ fn note_write(chip: &Chip, bytes: &[u8], counts: &mut Counts) {
         (2, 15) => counts.add(format!("CHIPRES {} to {}", chip.has(USBCTL, CHIPRES), byte & CHIPRES != 0)),
         (0, 1) => counts.add(format!("R1 read with {} first {}", chip.ep1.waiting, chip.ep1.oldest)),
         _ => {}
+    }
+}
+
+/// What R0, R2 and R3 are written with: how a burst of two bytes or more meets the buffer and its write position, bit 0 of the
+/// command with such a burst and with no data at all, and which of endpoint 2's buffers is the next one.
+fn note_burst(chip: &Chip, bytes: &[u8], counts: &mut Counts) {
+    let (register, ackstat, data) = (bytes[0] >> 3, bytes[0] & 1, bytes.len() - 1);
+    let (position, owned) = match register {
+        0 if chip.ep0_waiting > 0 => (chip.r0_write, "while armed"),
+        0 => (chip.r0_write, if chip.has(EPIRQ, OUT0DAVIRQ) { "while OUT0DAVIRQ" } else { "" }),
+        2 => (chip.r2_write, if chip.ep2.waiting == 2 { "while two wait" } else { "" }),
+        3 => (chip.r3_write, if chip.ep3_waiting > 0 { "while armed" } else { "" }),
+        _ => return,
+    };
+    match (bytes[0] & 2, data) {
+        (0, _) | (_, 1) => return,
+        (_, 0) => return counts.add(format!("R{register} no data, ACKSTAT {ackstat}")),
+        _ => counts.add(format!("R{register} burst, ACKSTAT {ackstat}")),
+    }
+    let (from, end) = (if position > 0 { "over 0" } else { "0" }, position as usize + data);
+    counts.add(match (owned, position) {
+        ("", 64) => format!("R{register} burst at 64"),
+        ("", _) if end > 64 => format!("R{register} burst in part from {from}"),
+        ("", _) => format!("R{register} burst whole from {from}"),
+        _ => format!("R{register} burst {owned}"),
+    });
+    if owned.is_empty() && (end == 64 || end == 65) {
+        counts.add(format!("R{register} burst up to {end}"));
+    }
+    if register == 2 && owned.is_empty() {
+        counts.add(format!("R2 burst to buffer {}", chip.ep2.index(chip.ep2.waiting)));
     }
 }
 
@@ -211,6 +245,36 @@ fn wanted() -> Vec<String> {
     all
 }
 
+/// Every way of `note_burst`.
+fn wanted_bursts() -> Vec<String> {
+    let each = [
+        "burst whole from 0",
+        "burst whole from over 0",
+        "burst in part from 0",
+        "burst in part from over 0",
+        "burst at 64",
+        "burst up to 64",
+        "burst up to 65",
+        "burst, ACKSTAT 0",
+        "burst, ACKSTAT 1",
+        "no data, ACKSTAT 0",
+        "no data, ACKSTAT 1",
+    ];
+    let mut all: Vec<String> = [0, 2, 3].iter().flat_map(|r| each.map(|way| format!("R{r} {way}"))).collect();
+    all.extend(["R0 burst while armed", "R0 burst while OUT0DAVIRQ", "R3 burst while armed"].map(String::from));
+    all.extend(["R2 burst while two wait", "R2 burst to buffer 0", "R2 burst to buffer 1"].map(String::from));
+    all
+}
+
+/// The wanted bursts that occur less often than `floor`; prints how often each does.
+fn rare_bursts(counts: &Counts, floor: usize) -> Vec<(usize, String)> {
+    let often = |name: &String| counts.0.get(name).copied().unwrap_or_default();
+    let mut found: Vec<_> = wanted_bursts().into_iter().map(|name| (often(&name), name)).collect();
+    println!("{found:?}");
+    found.retain(|(n, _)| *n < floor);
+    found
+}
+
 #[test]
 fn the_runs_reach_every_situation_from_power_on() {
     let mut counts = Counts::default();
@@ -234,6 +298,18 @@ fn the_runs_reach_every_situation_from_power_on() {
     let by_hand: Vec<_> = counts.0.iter().filter(|(name, _)| name.starts_with("1 to IN")).collect();
     println!("{by_hand:?}");
     assert!(by_hand.iter().all(|(_, n)| **n >= 200));
+    // the rarest way occurs 110 times
+    let rare = rare_bursts(&counts, 60);
+    assert!(rare.is_empty(), "rare: {rare:?}");
+}
+
+#[test]
+fn the_table_of_bursts_reaches_every_way() {
+    let mut counts = Counts::default();
+    burst_states().for_each(|list| play(&list, &mut counts));
+    assert!(!counts.0.contains_key("transfer refusal 1"), "its records are sound");
+    let rare = rare_bursts(&counts, 2);
+    assert!(rare.is_empty(), "rare: {rare:?}");
 }
 
 #[test]

@@ -63,7 +63,7 @@ fn endpoint_2(rng: &mut Rng, address: u8, calls: &mut Vec<Call>) {
         let n = rng.below(10);
         match rng.below(5) {
             0 => calls.push(take(address, 2, !rng.one_in(3))),
-            1 => calls.push(write(2, &rng.bytes(n))),
+            1 => calls.extend(two_bursts(rng, 2)),
             2 => calls.push(write(11, &[rng.pick(&[0x08, 0x08, 0x18, 0x39])])),
             _ => calls.extend([write(2, &rng.bytes(n)), write(7, &[arm_count(rng)])]),
         }
@@ -73,9 +73,10 @@ fn endpoint_2(rng: &mut Rng, address: u8, calls: &mut Vec<Call>) {
 fn endpoint_3(rng: &mut Rng, address: u8, calls: &mut Vec<Call>) {
     for _ in 0..rng.below(4) {
         let n = rng.below(10);
-        match rng.below(4) {
+        match rng.below(5) {
             0 => calls.push(take(address, 3, !rng.one_in(3))),
             1 => calls.push(write(11, &[rng.pick(&[0x10, 0x10, 0x18, 0x39])])),
+            2 => calls.extend(two_bursts(rng, 3)),
             _ => calls.extend([write(3, &rng.bytes(n)), write(8, &[arm_count(rng)])]),
         }
     }
@@ -98,6 +99,9 @@ fn endpoint_0(rng: &mut Rng, address: u8, calls: &mut Vec<Call>) {
                 7 => spi(&[rng.pick(&[0x91, 0xF9, 0x01])]),
                 _ => out(address, 0, true, &rng.bytes(n)),
             });
+        }
+        if rng.one_in(2) {
+            calls.extend(two_bursts(rng, 0));
         }
     }
 }

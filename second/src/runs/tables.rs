@@ -3,9 +3,9 @@
 use super::*;
 use crate::bus::*;
 
-/// All tables of this file.
+/// All tables of this file, and the one of bursts.
 pub fn whole_tables() -> impl Iterator<Item = Vec<Call>> {
-    [codes(), lengths(), registers()].into_iter().chain(event_states()).chain(control_states())
+    [codes(), lengths(), registers()].into_iter().chain(event_states()).chain(control_states()).chain(burst_states())
 }
 
 /// Every event code, off and on.

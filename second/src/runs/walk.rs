@@ -68,8 +68,8 @@ pub fn any_transfer(rng: &mut Rng) -> Call {
 pub fn useful_transfer(rng: &mut Rng) -> Call {
     let n = rng.below(9);
     match rng.below(20) {
-        0..=2 => write(rng.pick(&[0, 2, 3]), &rng.bytes(n)),
-        3 => write(rng.pick(&[0, 2, 3]), &rng.bytes(66)),
+        0 | 1 => write(rng.pick(&[0, 2, 3]), &rng.bytes(n)),
+        2 | 3 => any_burst(rng),
         4..=8 => write(rng.pick(&[5, 7, 7, 8]), &[arm_count(rng)]),
         9 => write(9, &[rng.byte() & rng.byte() & rng.byte()]),
         10 => write(10, &[rng.byte() & rng.byte() & 0x1C | rng.byte() & rng.byte() & rng.byte()]),
