@@ -36,6 +36,27 @@ fn store(buffer: &mut [u8; BUFFER], position: &mut u8, byte: u8) {
     if let Some(place) = buffer.get_mut(*position as usize) {
         *place = byte;
         *position += 1;
+    } else if flipped(Flip::FullOverwrites) {
+        buffer[BUFFER - 1] = byte;
+    } else if flipped(Flip::FullMoves) {
+        *position = position.saturating_add(1);
+    }
+}
+
+/// A byte that is ignored, because the buffer is the chip's.
+fn ignore(position: &mut u8) {
+    if flipped(Flip::ChipsMoves) {
+        *position = position.saturating_add(1);
+    }
+}
+
+/// Where R0, R2 or R3 is written next, while its buffer is not the chip's.
+pub fn write_position(chip: &mut Chip, register: u8) -> Option<&mut u8> {
+    match register {
+        0 if !ep0_is_chips(chip) => Some(&mut chip.r0_write),
+        2 if chip.ep2.waiting < 2 => Some(&mut chip.r2_write),
+        3 if chip.ep3_waiting == 0 => Some(&mut chip.r3_write),
+        _ => None,
     }
 }
 
@@ -44,6 +65,8 @@ fn write_r0(chip: &mut Chip, byte: u8) {
     let received = chip.has(EPIRQ, OUT0DAVIRQ) && !flipped(Flip::R0WriteWhileOut0dav);
     if !armed && !received {
         store(&mut chip.ep0, &mut chip.r0_write, byte);
+    } else {
+        ignore(&mut chip.r0_write);
     }
 }
 
@@ -51,12 +74,16 @@ fn write_r2(chip: &mut Chip, byte: u8) {
     if chip.ep2.waiting < 2 || flipped(Flip::R2WriteWhileFull) {
         let next = chip.ep2.index(chip.ep2.waiting);
         store(&mut chip.ep2.bytes[next], &mut chip.r2_write, byte);
+    } else {
+        ignore(&mut chip.r2_write);
     }
 }
 
 fn write_r3(chip: &mut Chip, byte: u8) {
     if chip.ep3_waiting == 0 || flipped(Flip::R3WriteWhileArmed) {
         store(&mut chip.ep3, &mut chip.r3_write, byte);
+    } else {
+        ignore(&mut chip.r3_write);
     }
 }
 

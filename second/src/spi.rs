@@ -3,7 +3,7 @@
 use crate::chip::*;
 use crate::flips::{flipped, Flip};
 use crate::pin::pin_level;
-use crate::registers::{read_register, write_register};
+use crate::registers::{read_register, write_position, write_register};
 
 /// One SPI transfer: a command byte and data bytes; the reply is as long.
 pub fn transfer(chip: Chip, bytes: &[u8], reply: &mut [u8]) -> Answer {
@@ -40,9 +40,12 @@ fn burst(chip: &mut Chip, bytes: &[u8], reply: &mut [u8]) {
         chip.put(EPSTALLS, ACKSTAT, true);
     }
     let mut register = command >> 3;
+    let ignored = command & 2 != 0 && flipped_burst(chip, register, bytes.len() - 1);
     for (byte, place) in bytes[1..].iter().zip(&mut reply[1..]) {
         *place = if command & 2 != 0 {
-            write_register(chip, register, *byte);
+            if !ignored {
+                write_register(chip, register, *byte);
+            }
             0
         } else {
             read_register(chip, register)
@@ -58,6 +61,15 @@ fn burst(chip: &mut Chip, bytes: &[u8], reply: &mut [u8]) {
     if flipped(Flip::FdupspiAfter) {
         reply[0] = status_byte(chip, &before);
     }
+}
+
+/// The flips of whole bursts to R0, R2 and R3; is this one ignored?
+fn flipped_burst(chip: &mut Chip, register: u8, length: usize) -> bool {
+    let Some(position) = write_position(chip, register) else { return false };
+    if flipped(Flip::BurstFromStart) && length > 1 {
+        *position = 0;
+    }
+    flipped(Flip::BurstWhole) && *position as usize + length > BUFFER
 }
 
 /// Reply byte 0: FDUPSPI and the bits as they stood before the transfer (decision 13).
