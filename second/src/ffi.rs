@@ -227,33 +227,99 @@ mod calls {
     use super::{Answer, BoardAnswer, Chip, Classroom, DeskAnswer, DeskStepAnswer, Firmware, RequestAnswer, TeacherAnswer};
     use crate::bus::Event;
 
-    // SAFETY: the declarations of include/max3420e.h, whose layout tests/layout.c checks against the library.
-    // `safe`: it takes no pointer, and any record is allowed.
+    /// A linked library's calls on a chip or a board alone.
+    pub trait Linked {
+        fn power_on() -> Chip;
+        fn transfer(chip: Chip, bytes: &[u8], reply: &mut [u8]) -> Answer;
+        fn event(chip: Chip, what: &Event, payload: &[u8], reply: &mut [u8]) -> Answer;
+        fn board_step(chip: Chip, firmware: Firmware, reply: &mut [u8]) -> BoardAnswer;
+        fn firmware_answer(firmware: Firmware, setup: &[u8], reply: &mut [u8]) -> RequestAnswer;
+    }
+
+    /// `$library`'s functions are named `$prefix` and what the header has after `max3420e_`.
+    macro_rules! link {
+        ($library:ty, $prefix:literal) => {
+            const _: () = {
+                // SAFETY: the declarations of include/max3420e.h, whose layout tests/layout.c checks against the library.
+                // `safe`: it takes no pointer, and any record is allowed.
+                unsafe extern "C" {
+                    #[link_name = concat!($prefix, "power_on")]
+                    safe fn power_on() -> Chip;
+                    #[link_name = concat!($prefix, "transfer")]
+                    fn transfer(chip: Chip, bytes: *const u8, length: usize, reply: *mut u8, room: usize) -> Answer;
+                    #[link_name = concat!($prefix, "event")]
+                    fn event(
+                        chip: Chip,
+                        code: u8,
+                        pins: u8,
+                        address: u8,
+                        endpoint: u8,
+                        damaged: u8,
+                        data1: u8,
+                        acknowledged: u8,
+                        payload: *const u8,
+                        length: usize,
+                        reply: *mut u8,
+                        room: usize,
+                    ) -> Answer;
+                    #[link_name = concat!($prefix, "board_step")]
+                    fn board_step(chip: Chip, firmware: Firmware, reply: *mut u8, room: usize) -> BoardAnswer;
+                    #[link_name = concat!($prefix, "firmware_answer")]
+                    fn firmware_answer(
+                        firmware: Firmware,
+                        setup: *const u8,
+                        length: usize,
+                        reply: *mut u8,
+                        room: usize,
+                    ) -> RequestAnswer;
+                }
+
+                impl Linked for $library {
+                    #[inline]
+                    fn power_on() -> Chip {
+                        power_on()
+                    }
+
+                    #[inline]
+                    fn transfer(chip: Chip, bytes: &[u8], reply: &mut [u8]) -> Answer {
+                        // SAFETY: the pointers are those of slices that live through the call, with their lengths; a `&mut`
+                        // slice overlaps no other; any record is allowed.
+                        unsafe { transfer(chip, bytes.as_ptr(), bytes.len(), reply.as_mut_ptr(), reply.len()) }
+                    }
+
+                    #[inline]
+                    fn event(chip: Chip, what: &Event, payload: &[u8], reply: &mut [u8]) -> Answer {
+                        let Event { code, pins, address, endpoint, damaged, data1, acknowledged } = *what;
+                        let (bytes, length) = (payload.as_ptr(), payload.len());
+                        let (to, room) = (reply.as_mut_ptr(), reply.len());
+                        // SAFETY: as for `transfer`.
+                        unsafe {
+                            event(chip, code, pins, address, endpoint, damaged, data1, acknowledged, bytes, length, to, room)
+                        }
+                    }
+
+                    #[inline]
+                    fn board_step(chip: Chip, firmware: Firmware, reply: &mut [u8]) -> BoardAnswer {
+                        // SAFETY: as for `transfer`.
+                        unsafe { board_step(chip, firmware, reply.as_mut_ptr(), reply.len()) }
+                    }
+
+                    #[inline]
+                    fn firmware_answer(firmware: Firmware, setup: &[u8], reply: &mut [u8]) -> RequestAnswer {
+                        // SAFETY: as for `transfer`.
+                        unsafe { firmware_answer(firmware, setup.as_ptr(), setup.len(), reply.as_mut_ptr(), reply.len()) }
+                    }
+                }
+            };
+        };
+    }
+
+    link!(crate::library::Library, "max3420e_");
+    #[cfg(before)]
+    link!(crate::library::Before, "before_max3420e_");
+
+    // SAFETY and `safe`: as for `Linked`.
     unsafe extern "C" {
-        safe fn max3420e_power_on() -> Chip;
-        fn max3420e_transfer(chip: Chip, bytes: *const u8, length: usize, reply: *mut u8, room: usize) -> Answer;
-        fn max3420e_event(
-            chip: Chip,
-            code: u8,
-            pins: u8,
-            address: u8,
-            endpoint: u8,
-            damaged: u8,
-            data1: u8,
-            acknowledged: u8,
-            payload: *const u8,
-            length: usize,
-            reply: *mut u8,
-            room: usize,
-        ) -> Answer;
-        fn max3420e_board_step(chip: Chip, firmware: Firmware, reply: *mut u8, room: usize) -> BoardAnswer;
-        fn max3420e_firmware_answer(
-            firmware: Firmware,
-            setup: *const u8,
-            length: usize,
-            reply: *mut u8,
-            room: usize,
-        ) -> RequestAnswer;
         safe fn max3420e_classroom_start() -> Classroom;
         safe fn max3420e_open_desk(classroom: Classroom, desk: u8, key: u32) -> TeacherAnswer;
         safe fn max3420e_close_desk(classroom: Classroom, desk: u8) -> TeacherAnswer;
@@ -286,39 +352,6 @@ mod calls {
     }
 
     #[inline]
-    pub fn power_on() -> Chip {
-        max3420e_power_on()
-    }
-
-    #[inline]
-    pub fn transfer(chip: Chip, bytes: &[u8], reply: &mut [u8]) -> Answer {
-        // SAFETY: the pointers are those of slices that live through the call, with their lengths; a `&mut` slice
-        // overlaps no other; any record is allowed.
-        unsafe { max3420e_transfer(chip, bytes.as_ptr(), bytes.len(), reply.as_mut_ptr(), reply.len()) }
-    }
-
-    #[inline]
-    pub fn event(chip: Chip, what: &Event, payload: &[u8], reply: &mut [u8]) -> Answer {
-        let Event { code, pins, address, endpoint, damaged, data1, acknowledged } = *what;
-        let (bytes, length) = (payload.as_ptr(), payload.len());
-        let (to, room) = (reply.as_mut_ptr(), reply.len());
-        // SAFETY: as for `transfer`.
-        unsafe { max3420e_event(chip, code, pins, address, endpoint, damaged, data1, acknowledged, bytes, length, to, room) }
-    }
-
-    #[inline]
-    pub fn board_step(chip: Chip, firmware: Firmware, reply: &mut [u8]) -> BoardAnswer {
-        // SAFETY: as for `transfer`.
-        unsafe { max3420e_board_step(chip, firmware, reply.as_mut_ptr(), reply.len()) }
-    }
-
-    #[inline]
-    pub fn firmware_answer(firmware: Firmware, setup: &[u8], reply: &mut [u8]) -> RequestAnswer {
-        // SAFETY: as for `transfer`.
-        unsafe { max3420e_firmware_answer(firmware, setup.as_ptr(), setup.len(), reply.as_mut_ptr(), reply.len()) }
-    }
-
-    #[inline]
     pub fn classroom_start() -> Classroom {
         max3420e_classroom_start()
     }
@@ -336,7 +369,7 @@ mod calls {
     #[inline]
     pub fn desk_transfer(room: Classroom, desk: u8, key: u32, bytes: &[u8], reply: &mut [u8]) -> DeskAnswer {
         let (to, lent) = (reply.as_mut_ptr(), reply.len());
-        // SAFETY: as for `transfer`.
+        // SAFETY: as for `Linked::transfer`.
         unsafe { max3420e_desk_transfer(room, desk, key, bytes.as_ptr(), bytes.len(), to, lent) }
     }
 
@@ -345,7 +378,7 @@ mod calls {
         let Event { code, pins, address, endpoint, damaged, data1, acknowledged } = *what;
         let (bytes, length) = (payload.as_ptr(), payload.len());
         let (to, lent) = (reply.as_mut_ptr(), reply.len());
-        // SAFETY: as for `transfer`.
+        // SAFETY: as for `Linked::transfer`.
         unsafe {
             max3420e_desk_event(
                 room,
@@ -368,7 +401,7 @@ mod calls {
 
     #[inline]
     pub fn desk_step(room: Classroom, desk: u8, key: u32, reply: &mut [u8]) -> DeskStepAnswer {
-        // SAFETY: as for `transfer`.
+        // SAFETY: as for `Linked::transfer`.
         unsafe { max3420e_desk_step(room, desk, key, reply.as_mut_ptr(), reply.len()) }
     }
 }

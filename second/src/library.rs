@@ -131,6 +131,8 @@ fn list_ring(list: &mut Vec<u8>, ring: &Ring) {
     }
 }
 
+#[cfg(before)]
+pub use linked::Before;
 #[cfg(capi)]
 pub use linked::Library;
 
@@ -140,6 +142,7 @@ mod linked {
     use crate::bus::Event;
     use crate::compare::{Given, Other};
     use crate::compare_classes::OtherClassroom;
+    use crate::ffi::Linked;
     use crate::runs::Call;
     use crate::{ffi, Firmware};
 
@@ -147,26 +150,31 @@ mod linked {
     #[derive(Clone, Copy, Default)]
     pub struct Library;
 
-    impl Other for Library {
+    /// An earlier commit's, for `bench`.
+    #[cfg(before)]
+    #[derive(Clone, Copy, Default)]
+    pub struct Before;
+
+    impl<L: Linked> Other for L {
         type Chip = ffi::Chip;
 
         fn power_on(&self) -> ffi::Chip {
-            ffi::power_on()
+            <L as Linked>::power_on()
         }
 
         fn transfer(&self, chip: ffi::Chip, bytes: &[u8], reply: &mut [u8]) -> (ffi::Chip, Given) {
-            let ffi::Answer { chip, refusal, pid, count, pin, found } = ffi::transfer(chip, bytes, reply);
+            let ffi::Answer { chip, refusal, pid, count, pin, found } = <L as Linked>::transfer(chip, bytes, reply);
             (chip, Given { refusal, pid, count, pin, found })
         }
 
         fn event(&self, chip: ffi::Chip, what: &Event, payload: &[u8], reply: &mut [u8]) -> (ffi::Chip, Given) {
-            let ffi::Answer { chip, refusal, pid, count, pin, found } = ffi::event(chip, what, payload, reply);
+            let ffi::Answer { chip, refusal, pid, count, pin, found } = <L as Linked>::event(chip, what, payload, reply);
             (chip, Given { refusal, pid, count, pin, found })
         }
 
         fn board_step(&self, chip: ffi::Chip, firmware: Firmware, reply: &mut [u8]) -> (ffi::Chip, Firmware, Given) {
             let Firmware { configuration, wakeup, halted } = firmware;
-            let answer = ffi::board_step(chip, ffi::Firmware { configuration, wakeup, halted }, reply);
+            let answer = <L as Linked>::board_step(chip, ffi::Firmware { configuration, wakeup, halted }, reply);
             let ffi::BoardAnswer { chip, firmware, refusal, kind, count, pin, found } = answer;
             let ffi::Firmware { configuration, wakeup, halted } = firmware;
             (chip, Firmware { configuration, wakeup, halted }, Given { refusal, pid: kind, count, pin, found })

@@ -34,18 +34,18 @@ fn machine() -> String {
     format!("{name}, {} cores", names.len())
 }
 
-/// Nanoseconds of the library's call on these records.
+/// Nanoseconds of a library's call on these records.
 #[cfg(capi)]
-pub fn time_library(board: &crate::ffi::Board, call: &crate::runs::Call) -> f64 {
-    use crate::ffi::{board_step, event, transfer, Board};
+pub fn time_library<L: crate::ffi::Linked>(board: &crate::ffi::Board, call: &crate::runs::Call) -> f64 {
+    use crate::ffi::Board;
     use crate::runs::Call;
     let Board { chip, firmware } = board;
     let reply = &mut [0; 80][..];
     match call {
-        Call::Transfer { bytes, .. } => time(|| transfer(*black_box(chip), black_box(bytes), black_box(&mut *reply))),
-        Call::Event { event: what, payload, .. } => {
-            time(|| event(*black_box(chip), black_box(what), black_box(payload), black_box(&mut *reply)))
+        Call::Transfer { bytes, .. } => time(|| L::transfer(*black_box(chip), black_box(bytes), black_box(&mut *reply))),
+        Call::Event { event, payload, .. } => {
+            time(|| L::event(*black_box(chip), black_box(event), black_box(payload), black_box(&mut *reply)))
         }
-        _ => time(|| board_step(*black_box(chip), black_box(*firmware), black_box(&mut *reply))),
+        _ => time(|| L::board_step(*black_box(chip), black_box(*firmware), black_box(&mut *reply))),
     }
 }

@@ -11,6 +11,7 @@ fn skipped_without_the_library() {
 mod linked {
     use second::compare::{compare, shortest, Second};
     use second::compare_classes::{compare_classes, shortest_class, told_at};
+    use second::ffi::Linked;
     use second::library::Library;
     use second::noticed::{unnoticed_class_flips, unnoticed_flips};
     use second::runs::*;
@@ -121,7 +122,7 @@ mod linked {
                 let (length, room) = (rng.pick(&[8, 8, 8, 8, 8, 8, 0, 7, 9]), rng.pick(&[64, 80, 80, 80, 63]));
                 let (mut left, mut right) = ([0xEE; 80], [0xEE; 80]);
                 let firmware = ffi::Firmware { configuration, wakeup, halted };
-                let theirs = ffi::firmware_answer(firmware, &setup[..length], &mut left[..room]);
+                let theirs = Library::firmware_answer(firmware, &setup[..length], &mut left[..room]);
                 let ours = firmware_answer(&setup[..length], Firmware { configuration, wakeup, halted }, &mut right[..room]);
                 let Firmware { configuration, wakeup, halted } = ours.firmware;
                 let firmware = ffi::Firmware { configuration, wakeup, halted };

@@ -1,6 +1,10 @@
 //! Nanoseconds a call of the proved library and of this model, and their ratio, as a Markdown table.
 //! Both take their record by value and hand it back, as a user writes it, over the C boundary: a record that a C function takes by
 //! value is copied to the stack, which a Rust function spares. The last column is this model by a Rust call. Run it as `COMMAND` says.
+//! Words after ` -- ` choose the rows whose name has one of them in it; `-- burst` is all bursts of R0 to R4.
+//!
+//! With BEFORE_DIR=FOLDER before the command, FOLDER having an earlier commit's libcapi.a (`rt staticlib capi` there), that
+//! library is measured in the same run, in turn with the others: its times and its ratio stand before the library's.
 
 const COMMAND: &str = "cargo run --profile measure --no-default-features --bin bench";
 
@@ -12,13 +16,16 @@ fn main() {
 
 #[cfg(capi)]
 fn main() {
-    measured::print_table();
+    measured::print_table(&std::env::args().skip(1).collect::<Vec<_>>());
 }
 
 #[cfg(capi)]
 mod measured {
     use second::bus::Event;
     use second::compare::{Given, Other, Second};
+    use second::ffi::Linked;
+    #[cfg(before)]
+    use second::library::Before;
     use second::library::Library;
     use second::measure::{print_head, time, ROUNDS};
     use second::runs::*;
@@ -27,25 +34,46 @@ mod measured {
 
     /// What is timed, on the record that some calls from power-on leave.
     struct Case {
-        name: &'static str,
+        name: String,
         before: Vec<Call>,
         call: Call,
     }
 
-    fn case(name: &'static str, more: &[Call], call: Call) -> Case {
-        Case { name, before: [&on()[..], more].concat(), call }
+    fn case(name: &str, more: &[Call], call: Call) -> Case {
+        Case { name: name.to_string(), before: [&on()[..], more].concat(), call }
     }
 
     fn cases() -> Vec<Case> {
-        let full: Vec<u8> = (0..64).collect();
+        let mut all = vec![case("refused transfer (the record there and back)", &[], spi(&[]))];
+        all.extend(bursts());
+        all.extend(others());
+        all
+    }
+
+    /// 1 to 64: no byte of a burst leaves a buffer as it was at power-on.
+    fn full() -> Vec<u8> {
+        (1..=64).collect()
+    }
+
+    /// Buffers written from their start; packets and a SETUP read from theirs.
+    fn bursts() -> Vec<Case> {
+        let sizes = [1, 8, 64];
+        // a control write of 64 bytes, so that R0 has OUT data to read
+        let (asked, data) = (setup(0, &[0x21, 9, 0, 2, 0, 0, 64, 0]), out(0, 0, true, &full()));
+        let writes = |r: u8| sizes.map(|n| case(&format!("R{r}, burst of {n}"), &[], write(r, &full()[..n])));
+        let reads = |r: u8, more: &[Call]| sizes.map(|n| case(&format!("R{r} read, burst of {n}"), more, read(r, n)));
+        let mut all: Vec<Case> = [0, 2, 3].into_iter().flat_map(writes).collect();
+        all.extend(reads(0, &[asked.clone(), data]));
+        all.extend(reads(1, &[out(0, 1, false, &full())]));
+        all.push(case("R4 read, burst of 8", &[asked], read(4, 8)));
+        all
+    }
+
+    fn others() -> Vec<Case> {
+        let full = full();
         let controls = [0x40, 0x00, 0x21, 0x30, 0x01, 0x88, 0x08, 0x01, 0x18, 0x00, 0x00, 0x05];
         let request = |bytes: [u8; 8]| [setup(0, &bytes)];
         vec![
-            case("refused transfer (the record there and back)", &[], spi(&[])),
-            case("R2, burst of 1", &[], write(2, &[1])),
-            case("R2, burst of 8", &[], write(2, &full[..8])),
-            case("R2, burst of 64", &[], write(2, &full)),
-            case("R1 read, 64", &[out(0, 1, false, &full)], read(1, 64)),
             case("R11 read", &[], read(11, 1)),
             case("R9 written", &[], write(9, &[0x40])),
             case("R9 to R20 written", &[], write(9, &controls)),
@@ -87,15 +115,23 @@ mod measured {
         (chip, firmware)
     }
 
-    /// Both models answer the timed call alike.
+    /// What a model makes of the timed call: the records, the reply, the answer.
+    fn answered<M: Other>(model: &M, case: &Case) -> (Vec<u8>, Firmware, [u8; 80], Given) {
+        let mut reply = [0xEE; 80];
+        let (chip, firmware) = prepared(model, case);
+        let (chip, firmware, given) = play(model, chip, firmware, &case.call, &mut reply);
+        (model.observe(&chip), firmware, reply, given)
+    }
+
+    /// All models answer the timed call alike; a burst moves a position, or else it would be timed for nothing.
     fn check(case: &Case) {
-        let (mut left, mut right) = ([0xEE; 80], [0xEE; 80]);
-        let (chip, firmware) = prepared(&Library, case);
-        let (chip, firmware, given) = play(&Library, chip, firmware, &case.call, &mut left);
-        let (other_chip, other) = prepared(&Second::default(), case);
-        let (other_chip, other, other_given) = play(&Second::default(), other_chip, other, &case.call, &mut right);
-        assert_eq!((given, firmware, left), (other_given, other, right), "{}", case.name);
-        assert_eq!(Library.observe(&chip), Second::default().observe(&other_chip), "{}", case.name);
+        let model = Second::default();
+        let wanted = answered(&model, case);
+        assert_eq!(answered(&Library, case), wanted, "{}", case.name);
+        #[cfg(before)]
+        assert_eq!(answered(&Before, case), wanted, "the earlier library, {}", case.name);
+        let acts = model.observe(&prepared(&model, case).0) != wanted.0;
+        assert!(acts || !case.name.contains("burst"), "{}", case.name);
     }
 
     /// This model's calls as they stand in a user's program: not merged with the loop. First by Rust's calling convention.
@@ -149,11 +185,11 @@ mod measured {
         }
     }
 
-    fn time_library(case: &Case) -> f64 {
-        let (chip, firmware) = prepared(&Library, case);
+    fn time_library<L: Linked>(library: &L, case: &Case) -> f64 {
+        let (chip, firmware) = prepared(library, case);
         let Firmware { configuration, wakeup, halted } = firmware;
         let firmware = ffi::Firmware { configuration, wakeup, halted };
-        measure::time_library(&ffi::Board { chip, firmware }, &case.call)
+        measure::time_library::<L>(&ffi::Board { chip, firmware }, &case.call)
     }
 
     /// `$by` is the module whose calls are timed.
@@ -174,39 +210,78 @@ mod measured {
     }
 
     /// The firmware alone, asked for the device descriptor.
-    fn print_firmware() {
-        let setup = &[0x80, 6, 0, 1, 0, 0, 64, 0][..];
-        let reply = &mut [0; 80][..];
-        let (ours, theirs) = (Firmware::power_on(), ffi::Firmware { configuration: 0, wakeup: 0, halted: 0 });
-        let (mut library, mut in_c, mut in_rust) = (f64::INFINITY, f64::INFINITY, f64::INFINITY);
+    const DEVICE: &[u8] = &[0x80, 6, 0, 1, 0, 0, 64, 0];
+
+    fn time_firmware<L: Linked>() -> f64 {
+        let (firmware, reply) = (ffi::Firmware { configuration: 0, wakeup: 0, halted: 0 }, &mut [0; 80][..]);
+        time(|| L::firmware_answer(black_box(firmware), black_box(DEVICE), black_box(&mut *reply)))
+    }
+
+    macro_rules! time_second_firmware {
+        ($by:ident) => {{
+            let (firmware, reply) = (Firmware::power_on(), &mut [0; 80][..]);
+            time(|| $by::firmware_answer(black_box(firmware), black_box(DEVICE), black_box(&mut *reply)))
+        }};
+    }
+
+    /// The earlier library if any, the library, this model over the C boundary and by a Rust call.
+    const COLUMNS: usize = if cfg!(before) { 4 } else { 3 };
+
+    /// The columns timed once, in turn.
+    fn round(case: &Case) -> [f64; COLUMNS] {
+        [
+            #[cfg(before)]
+            time_library(&Before, case),
+            time_library(&Library, case),
+            time_second!(case, by_c),
+            time_second!(case, by_rust),
+        ]
+    }
+
+    fn firmware_round() -> [f64; COLUMNS] {
+        [
+            #[cfg(before)]
+            time_firmware::<Before>(),
+            time_firmware::<Library>(),
+            time_second_firmware!(by_c),
+            time_second_firmware!(by_rust),
+        ]
+    }
+
+    /// Prints each column's best of all rounds, and the libraries' ratios to this model.
+    fn print_row(name: &str, round: impl Fn() -> [f64; COLUMNS]) {
+        let mut best = [f64::INFINITY; COLUMNS];
         for _ in 0..ROUNDS {
-            library =
-                library.min(time(|| ffi::firmware_answer(black_box(theirs), black_box(setup), black_box(&mut *reply))));
-            in_c = in_c.min(time(|| by_c::firmware_answer(black_box(ours), black_box(setup), black_box(&mut *reply))));
-            in_rust =
-                in_rust.min(time(|| by_rust::firmware_answer(black_box(ours), black_box(setup), black_box(&mut *reply))));
+            let now = round();
+            best = std::array::from_fn(|i| best[i].min(now[i]));
         }
-        print_row("firmware answer, device descriptor", library, in_c, in_rust);
+        let [libraries @ .., in_c, in_rust] = best;
+        let times = libraries.map(|ns| format!("{ns:.0} | ")).concat();
+        let ratios = libraries.map(|ns| format!("{:.2} | ", ns / in_c)).concat();
+        println!("| {name} | {times}{in_c:.0} | {ratios}{in_rust:.0} |");
     }
 
-    fn print_row(name: &str, library: f64, in_c: f64, in_rust: f64) {
-        println!("| {name} | {library:.0} | {in_c:.0} | {:.2} | {in_rust:.0} |", library / in_c);
+    fn print_heads(words: &[String]) {
+        let (models, folder) = if cfg!(before) { ("all models", "BEFORE_DIR=FOLDER ") } else { ("both models", "") };
+        let rows: String = words.iter().map(|word| format!(" {word:?}")).collect();
+        let rows = if words.is_empty() { rows } else { format!(" --{rows}") };
+        print_head(models, &format!("{folder}{}{rows}", super::COMMAND));
+        let (before, ratio) = if cfg!(before) { ("before, ns | ", "ratio before | ") } else { ("", "") };
+        println!("| call | {before}library, ns | second model, ns | {ratio}ratio | second model by a Rust call, ns |");
+        println!("|---|---:{}|", "|---:".repeat(if cfg!(before) { 5 } else { 3 }));
     }
 
-    pub fn print_table() {
-        print_head("both models", super::COMMAND);
-        println!("| call | library, ns | second model, ns | ratio | second model by a Rust call, ns |");
-        println!("|---|---:|---:|---:|---:|");
-        for case in cases() {
-            check(&case);
-            let (mut library, mut in_c, mut in_rust) = (f64::INFINITY, f64::INFINITY, f64::INFINITY);
-            for _ in 0..ROUNDS {
-                library = library.min(time_library(&case));
-                in_c = in_c.min(time_second!(&case, by_c));
-                in_rust = in_rust.min(time_second!(&case, by_rust));
-            }
-            print_row(case.name, library, in_c, in_rust);
+    /// The rows whose name has one of the words in it; without words, all.
+    pub fn print_table(words: &[String]) {
+        let chosen = |name: &str| words.is_empty() || words.iter().any(|word| name.contains(word));
+        print_heads(words);
+        for case in cases().iter().filter(|case| chosen(&case.name)) {
+            check(case);
+            print_row(&case.name, || round(case));
         }
-        print_firmware();
+        let firmware = "firmware answer, device descriptor";
+        if chosen(firmware) {
+            print_row(firmware, firmware_round);
+        }
     }
 }

@@ -122,7 +122,7 @@ mod measured {
             }
             let (mut alone, mut one, mut all, mut second) = (f64::INFINITY, f64::INFINITY, f64::INFINITY, f64::INFINITY);
             for _ in 0..ROUNDS {
-                alone = alone.min(time_library(&board, &case.call));
+                alone = alone.min(time_library::<Library>(&board, &case.call));
                 one = one.min(time_desk(&case, false));
                 all = all.min(time_desk(&case, true));
                 second = second.min(time_second(&case));
