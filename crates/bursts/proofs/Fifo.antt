@@ -1,8 +1,8 @@
 -- The rules of R0 to R4 on the record are those of a buffer and its write position, and of a packet and its read position.
 use mathlib.Core.Path.{_≡_, refl, sym, ap, _∙_}
-use mathlib.Core.Bool.{Bool, true, false, cond, _||_}
+use mathlib.Core.Bool.{Bool, true, false, cond}
 use mathlib.Core.List.{List}
-use Prim.Native.Nat.{ℕ, _+_, _*_, _<_, _≤_}
+use Prim.Native.Nat.{ℕ, _+_, _<_, _≤_}
 use native.Mathlib.Nat.{zero-add}
 use native.Mathlib.Decide.{decLt}
 use native.Mathlib.Omega.{arith}
@@ -10,17 +10,12 @@ use lib.Dec.{leb, ltb}
 use lib.ListN.{length, getD, set, take, List·getD-eq-default}
 use lib.Seq.{getD-take, length-take-le}
 use borrow.Author.Tests.{le-leb, lt-ltb, le-ltb}
-use Rattle.bits.specs.Bit.{has}
-use Rattle.bits.specs.Flag.{isOn}
 use Rattle.bits.proofs.Cases.{cond-same, cond-map}
-use Rattle.ring.specs.Ring.{full, nextBuffer, oldestCount, oldestPacket, withBytes}
+use Rattle.ring.specs.Ring.{oldestCount, oldestPacket}
 use Rattle.chip.specs.declared.Endpoint0.{Endpoint0}
 use Rattle.chip.specs.declared.Endpoint1.{Endpoint1}
-use Rattle.chip.specs.declared.Endpoint2.{Endpoint2}
-use Rattle.chip.specs.declared.Endpoint3.{Endpoint3}
 use Rattle.chip.specs.declared.Chip.{Chip}
-use Rattle.chip.specs.Mask.{out0davirq}
-use Rattle.chip.specs.Set.{setEp0, setEp1, setEp2, setEp3}
+use Rattle.chip.specs.Set.{setEp0, setEp1}
 use Rattle.model.specs.Reply.{Outcome, outcome}
 use Rattle.model.specs.Spi.{burstTo}
 use Rattle.rules.specs.Write.{storeFifo, ep0Busy}
