@@ -17,13 +17,14 @@ use Rattle.chip.specs.declared.Endpoint1.{Endpoint1}
 use Rattle.chip.specs.declared.Chip.{Chip}
 use Rattle.chip.specs.Set.{setEp0, setEp1}
 use Rattle.model.specs.Reply.{Outcome, outcome}
-use Rattle.model.specs.Spi.{burstTo}
+use Rattle.model.specs.Spi.{writeTo, burstTo}
 use Rattle.rules.specs.Write.{storeFifo, ep0Busy}
 use Rattle.rules.specs.Read.{readFifo, ep0At}
 use Rattle.rules.specs.Spi.{stepRegister, max3420eSpi}
 use Rattle.fifos.specs.Fifo.{positionTo}
 use Rattle.fifos.proofs.Read.{fifo-gives, fifo-state}
-use Rattle.bursts.specs.Burst.{Filling, filling, limitOf, fillTo, packetSpi, Burst, ep0fifo, ep2infifo, ep3infifo, fifoStored}
+use Rattle.bursts.specs.Burst.{Filling, filling, limitOf, fillTo, packetSpi, Burst}
+use Rattle.bursts.specs.Burst.{WriteFifo, ep0fifo, ep2infifo, ep3infifo, fifoStored}
 use Rattle.bursts.proofs.Part.{part-to, put-back}
 
 -- a limit of 0 ignores every byte, as a buffer that is the chip's does
@@ -55,22 +56,23 @@ readAt put end p byte = readFifo (ltb p end) byte (put (p + 1)) (put p)
 
 -- ---- writes: the bytes stored one by one, put back, are the burst on the record
 
+written : (w : WriteFifo) (c : Chip) → stepRegister (w .register) ≡ w .register → w .put c (w .state c) ≡ c
+    → ((s : Filling) (b : ℕ)
+    → w .put c (fillTo (w .start c) (limitOf (w .chips c)) s b) ≡ writeTo max3420eSpi (w .put c s) (w .register) b)
+    → (bs : List ℕ) → fifoStored w c bs ≡ burstTo max3420eSpi c true (w .register) bs
+written w c stays kept rule bs =
+    part-to max3420eSpi (fillTo (w .start c) (limitOf (w .chips c))) (λ s. outcome s 0) (w .put c) true (w .register) stays rule bs
+    (w .state c)
+    ∙ ap (λ (d : Chip). burstTo max3420eSpi d true (w .register) bs) kept
+
 pub written-ep0 : (c : Chip) (bs : List ℕ) → fifoStored ep0fifo c bs ≡ burstTo max3420eSpi c true 0 bs
-written-ep0 c bs =
-    part-to max3420eSpi (fillTo 0 (limitOf (ep0Busy c))) (λ s. outcome s 0) (ep0fifo .put c) true 0 refl
-    (stores-first (ep0fifo .put c) (ep0Busy c)) bs (ep0fifo .state c)
+written-ep0 c = written ep0fifo c refl refl (stores-first (ep0fifo .put c) (ep0Busy c))
 
 pub written-ep2 : (c : Chip) (bs : List ℕ) → fifoStored ep2infifo c bs ≡ burstTo max3420eSpi c true 2 bs
-written-ep2 c bs =
-    let start = ep2infifo .start c in
-    let chips = ep2infifo .chips c in
-    part-to max3420eSpi (fillTo start (limitOf chips)) (λ s. outcome s 0) (ep2infifo .put c) true 2 refl
-    (stores (ep2infifo .put c) chips start) bs (ep2infifo .state c)
+written-ep2 c = written ep2infifo c refl refl (stores (ep2infifo .put c) (ep2infifo .chips c) (ep2infifo .start c))
 
 pub written-ep3 : (c : Chip) (bs : List ℕ) → fifoStored ep3infifo c bs ≡ burstTo max3420eSpi c true 3 bs
-written-ep3 c bs =
-    part-to max3420eSpi (fillTo 0 (limitOf (ep3infifo .chips c))) (λ s. outcome s 0) (ep3infifo .put c) true 3 refl
-    (stores-first (ep3infifo .put c) (ep3infifo .chips c)) bs (ep3infifo .state c)
+written-ep3 c = written ep3infifo c refl refl (stores-first (ep3infifo .put c) (ep3infifo .chips c))
 
 -- ---- reads
 

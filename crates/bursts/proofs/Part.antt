@@ -17,15 +17,16 @@ module _ {R S : Type 0} (f : Spi R) (write : S → ℕ → S) (read : S → Outc
   part-to (b ∷ bs) s =
       part-to bs (byteTo (fifoSpi write read) s w 0 b) ∙ ap₂ (λ (c : R) (k : ℕ). burstTo f c w k bs) (same s b) (sym stays)
 
-  part-of : ((s : S) → byteOf (fifoSpi write read) s w 0 ≡ byteOf f (put s) w n) → (bs : List ℕ) (s : S) → burstOf (fifoSpi write read) s w 0 bs ≡ burstOf f (put s) w n bs
+  part-of : ((s : S) → byteOf (fifoSpi write read) s w 0 ≡ byteOf f (put s) w n) → (bs : List ℕ) (s : S)
+      → burstOf (fifoSpi write read) s w 0 bs ≡ burstOf f (put s) w n bs
   unfolding burstOf
   part-of alike [] s = refl
   part-of alike (b ∷ bs) s =
       ap₂ (λ (x : ℕ) (l : List ℕ). x ∷ l) (alike s) (part-of alike bs (byteTo (fifoSpi write read) s w 0 b) ∙ ap₂
       (λ (c : R) (k : ℕ). burstOf f c w k bs) (same s b) (sym stays))
 
-  pub put-back : ((s : S) → byteOf (fifoSpi write read) s w 0 ≡ byteOf f (put s) w n) → (bytes reply out : List ℕ) (s after : S) → Burst (fifoSpi write read) s after w 0 bytes reply out
-      → Burst f (put s) (put after) w n bytes reply out
+  pub put-back : ((s : S) → byteOf (fifoSpi write read) s w 0 ≡ byteOf f (put s) w n) → (bytes reply out : List ℕ) (s after : S)
+      → Burst (fifoSpi write read) s after w 0 bytes reply out → Burst f (put s) (put after) w n bytes reply out
   put-back alike bytes reply out s after done = (
     ap put (done .0) ∙ part-to (drop 1 bytes) s,
     done .1 ∙ ap (λ (l : List ℕ). take 1 reply ++ l ++ drop (length bytes) reply) (part-of alike (drop 1 bytes) s),
