@@ -2,7 +2,7 @@
 
 use crate::bus::{Event, POWER_ON, RESET_START};
 use crate::fields::{self, FIELDS};
-use crate::flips::with_flips;
+use crate::flips::{with_flip, Flip};
 use crate::runs::Call;
 use crate::{board_step, event, observe, transfer, Answer, BoardAnswer, Chip, Firmware};
 
@@ -29,10 +29,10 @@ pub trait Other {
     fn observe(&self, chip: &Self::Chip) -> Vec<u8>;
 }
 
-/// This model, with flips for tests.
+/// This model, with a flip for tests.
 #[derive(Clone, Copy, Default)]
 pub struct Second {
-    pub flips: u128,
+    pub flip: Option<Flip>,
 }
 
 impl Other for Second {
@@ -43,17 +43,17 @@ impl Other for Second {
     }
 
     fn transfer(&self, chip: Chip, bytes: &[u8], reply: &mut [u8]) -> (Chip, Given) {
-        let Answer { chip, refusal, pid, count, pin, found } = with_flips(self.flips, || transfer(chip, bytes, reply));
+        let Answer { chip, refusal, pid, count, pin, found } = with_flip(self.flip, || transfer(chip, bytes, reply));
         (chip, Given { refusal, pid, count, pin, found })
     }
 
     fn event(&self, chip: Chip, what: &Event, payload: &[u8], reply: &mut [u8]) -> (Chip, Given) {
-        let Answer { chip, refusal, pid, count, pin, found } = with_flips(self.flips, || event(chip, *what, payload, reply));
+        let Answer { chip, refusal, pid, count, pin, found } = with_flip(self.flip, || event(chip, *what, payload, reply));
         (chip, Given { refusal, pid, count, pin, found })
     }
 
     fn board_step(&self, chip: Chip, firmware: Firmware, reply: &mut [u8]) -> (Chip, Firmware, Given) {
-        let answer = with_flips(self.flips, || board_step(chip, firmware, reply));
+        let answer = with_flip(self.flip, || board_step(chip, firmware, reply));
         let BoardAnswer { chip, firmware, refusal, kind, count, pin, found } = answer;
         (chip, firmware, Given { refusal, pid: kind, count, pin, found })
     }

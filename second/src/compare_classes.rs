@@ -3,7 +3,7 @@
 use crate::classroom::{Classroom, Desk, DeskAnswer, TeacherAnswer, DESKS};
 use crate::compare::{is_written, lend, shorten, Difference, Given, Second, GUARD};
 use crate::fields::{self, FIELDS};
-use crate::flips::with_flips;
+use crate::flips::with_flip;
 use crate::observe;
 use crate::runs::{Call, Order, KEY, OPENED};
 
@@ -29,17 +29,17 @@ impl OtherClassroom for Second {
     }
 
     fn open(&self, room: Classroom, desk: u8, key: u32) -> (Classroom, u8) {
-        let TeacherAnswer { classroom, refusal } = with_flips(self.flips, || room.open(desk, key));
+        let TeacherAnswer { classroom, refusal } = with_flip(self.flip, || room.open(desk, key));
         (classroom, refusal)
     }
 
     fn close(&self, room: Classroom, desk: u8) -> (Classroom, u8) {
-        let TeacherAnswer { classroom, refusal } = with_flips(self.flips, || room.close(desk));
+        let TeacherAnswer { classroom, refusal } = with_flip(self.flip, || room.close(desk));
         (classroom, refusal)
     }
 
     fn call(&self, room: Classroom, desk: u8, key: u32, call: &Call, reply: &mut [u8]) -> (Classroom, Given) {
-        let answer = with_flips(self.flips, || room.call(desk, key, call, reply));
+        let answer = with_flip(self.flip, || room.call(desk, key, call, reply));
         let DeskAnswer { classroom, refusal, pid, count, pin, found } = answer;
         (classroom, Given { refusal, pid, count, pin, found })
     }

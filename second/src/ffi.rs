@@ -198,6 +198,26 @@ pub struct DeskStepAnswer {
     pub found: usize,
 }
 
+/// `max3420e_lesson_answer`.
+#[repr(C)]
+#[derive(Clone, Copy, Debug, PartialEq, Eq)]
+pub struct LessonAnswer {
+    pub refusal: u8,
+    pub found: usize,
+    pub count: usize,
+}
+
+/// `max3420e_replay_answer`.
+#[repr(C)]
+#[derive(Clone, Copy, Debug, PartialEq, Eq)]
+pub struct ReplayAnswer {
+    pub chip: Chip,
+    pub refusal: u8,
+    pub pin: u8,
+    pub found: usize,
+    pub count: usize,
+}
+
 // The header's offsets, as tests/layout.c prints them.
 const _: () = {
     use std::mem::offset_of;
@@ -217,6 +237,11 @@ const _: () = {
     assert!(offset_of!(TeacherAnswer, refusal) == 7040 && offset_of!(DeskAnswer, refusal) == 7040);
     assert!(offset_of!(DeskAnswer, count) == 7042 && offset_of!(DeskAnswer, pin) == 7044);
     assert!(offset_of!(DeskAnswer, found) == 7048 && offset_of!(DeskStepAnswer, found) == 7048);
+    assert!(size_of::<LessonAnswer>() == 24 && offset_of!(LessonAnswer, found) == 8);
+    assert!(offset_of!(LessonAnswer, count) == 16);
+    assert!(size_of::<ReplayAnswer>() == 448 && offset_of!(ReplayAnswer, refusal) == 430);
+    assert!(offset_of!(ReplayAnswer, pin) == 431 && offset_of!(ReplayAnswer, found) == 432);
+    assert!(offset_of!(ReplayAnswer, count) == 440);
 };
 
 #[cfg(capi)]
@@ -224,7 +249,8 @@ pub use calls::*;
 
 #[cfg(capi)]
 mod calls {
-    use super::{Answer, BoardAnswer, Chip, Classroom, DeskAnswer, DeskStepAnswer, Firmware, RequestAnswer, TeacherAnswer};
+    use super::{Answer, BoardAnswer, Chip, Classroom, DeskAnswer, DeskStepAnswer, Firmware};
+    use super::{LessonAnswer, ReplayAnswer, RequestAnswer, TeacherAnswer};
     use crate::bus::Event;
 
     /// A linked library's calls on a chip or a board alone.
@@ -349,6 +375,21 @@ mod calls {
             room: usize,
         ) -> DeskAnswer;
         fn max3420e_desk_step(classroom: Classroom, desk: u8, key: u32, reply: *mut u8, room: usize) -> DeskStepAnswer;
+        fn max3420e_check_lesson(file: *const u8, length: usize) -> LessonAnswer;
+        fn max3420e_write_lesson(
+            kinds: *const u8,
+            kind_count: usize,
+            ticks: *const u32,
+            tick_count: usize,
+            lengths: *const u16,
+            length_count: usize,
+            bodies: *const u8,
+            size: usize,
+            file: *mut u8,
+            room: usize,
+        ) -> LessonAnswer;
+        fn max3420e_replay(file: *const u8, length: usize, output: *mut u8, room: usize) -> ReplayAnswer;
+        safe fn max3420e_elapsed(from: u32, to: u32) -> u32;
     }
 
     #[inline]
@@ -403,5 +444,41 @@ mod calls {
     pub fn desk_step(room: Classroom, desk: u8, key: u32, reply: &mut [u8]) -> DeskStepAnswer {
         // SAFETY: as for `Linked::transfer`.
         unsafe { max3420e_desk_step(room, desk, key, reply.as_mut_ptr(), reply.len()) }
+    }
+
+    #[inline]
+    pub fn check_lesson(file: &[u8]) -> LessonAnswer {
+        // SAFETY: as for `Linked::transfer`.
+        unsafe { max3420e_check_lesson(file.as_ptr(), file.len()) }
+    }
+
+    #[inline]
+    pub fn write_lesson(kinds: &[u8], ticks: &[u32], lengths: &[u16], bodies: &[u8], file: &mut [u8]) -> LessonAnswer {
+        // SAFETY: as for `Linked::transfer`.
+        unsafe {
+            max3420e_write_lesson(
+                kinds.as_ptr(),
+                kinds.len(),
+                ticks.as_ptr(),
+                ticks.len(),
+                lengths.as_ptr(),
+                lengths.len(),
+                bodies.as_ptr(),
+                bodies.len(),
+                file.as_mut_ptr(),
+                file.len(),
+            )
+        }
+    }
+
+    #[inline]
+    pub fn replay(file: &[u8], output: &mut [u8]) -> ReplayAnswer {
+        // SAFETY: as for `Linked::transfer`.
+        unsafe { max3420e_replay(file.as_ptr(), file.len(), output.as_mut_ptr(), output.len()) }
+    }
+
+    #[inline]
+    pub fn elapsed(from: u32, to: u32) -> u32 {
+        max3420e_elapsed(from, to)
     }
 }

@@ -1,5 +1,5 @@
-//! Single rules turned round, to see whether a comparison notices: bit i of a set turns the rule of flip number i round.
-//! The set is 0 unless a test sets it by `with_flips`; then the model is the documented one.
+//! Single rules turned round, to see whether a comparison notices: one at a time, in a call made by `with_flip`. Without one
+//! the model is the documented one.
 
 use std::cell::Cell;
 
@@ -125,24 +125,70 @@ CLASSROOM {
     ChipEvent = "an event at a desk leaves the firmware's record",
     RefusedPin = "a call that 9 to 11 refuse tells the desk's pin",
 }
+LESSONS {
+    AnyVersion = "a lesson's version is not looked at",
+    FileUnder64K = "a file of 65,536 bytes is over 64 KiB",
+    FileOver64K = "a file of 65,537 bytes is not over 64 KiB",
+    NoEntries = "a file of no entries is no lesson",
+    EntriesByOffset = "the first entry's offset tells how many there are, not n",
+    NamedFrom1 = "13 names entries from 1",
+    CutNamesN = "13 names n where the table is cut",
+    EndNamesEntry = "13 names the entry whose body passes the file's end",
+    KindsFirst = "all kinds are looked at before any offset",
+    KindUnchecked = "any kind but 1 is an event's",
+    TicksInOrder = "ticks that go back are refused",
+    OffsetLow16 = "an offset is compared in its low 16 bits",
+    OffsetFromBodies = "an offset counts from the end of the table",
+    GapAccepted = "bytes between two bodies are accepted",
+    TrailingAccepted = "bytes after the last body are accepted",
+    WriterEntriesWrap = "256 entries are written, with n 0",
+    WriterUneven = "ticks and lengths beyond the kinds are left out",
+    WriterBodiesLeft = "bytes of the bodies beyond the lengths are left out",
+    WriterNamesEntry = "the writer's 13 names the first bad kind",
+    WriterShortFirst = "4 is looked at before 13 in the writer",
+    WriterRoomBelow = "the writer wants a byte more than the file has",
+    WriterTickHighFirst = "a tick is written high byte first",
+    WriterClearsRest = "the writer clears the rest of the lent buffer",
+    InMarkInverted = "an IN's mark is 1 where the ACK is lost",
+    MarksSwapped = "an OUT's mark 1 is DATA1 and 2 damaged",
+    Data1Ignored = "an OUT's mark 2 is not taken",
+    DamagedIgnored = "mark 1 of a SETUP or an OUT is not taken",
+    AnyMark = "marks that are none are ignored",
+    Mark2Anywhere = "mark 2 is ignored at SETUP and IN",
+    LongBody = "bytes after an event's end are ignored",
+    PinsByDefault = "input pins without their byte are 0",
+    ShortTransaction = "a transaction's missing marks are 0",
+    EmptyIsNoCommand = "an event's empty body plays as 2",
+    EachFromPowerOn = "each entry is played from power-on",
+    RefusedEnds = "a refused entry is the last that is played",
+    LentBuffer = "each call is lent 64 bytes",
+    PidLeftOut = "a reply's PID is written as 0",
+    RefusalLeftOut = "an entry's refusal is written as 0",
+    CountHighFirst = "a reply's count is written high byte first",
+    FoundAsCount = "6 and 8 write the length found as their count",
+    ShortFirst = "4 is looked at before 13 in a replay",
+    RoomBelow = "a replay wants a byte more than it writes",
+    PartWritten = "what fits is written though not all does",
+    RefusedKeepsChip = "4 hands back the chip after the lesson",
+    TickSaturates = "time that goes back is 0",
+    TickBackwards = "time is counted from the later entry to the earlier",
+}
 }
 
-const _: () = assert!(BOARD.len() + CLASSROOM.len() <= 128);
-
 thread_local! {
-    static FLIPS: Cell<u128> = const { Cell::new(0) };
+    static FLIP: Cell<Option<Flip>> = const { Cell::new(None) };
 }
 
 /// Does the model follow the flipped rule?
 #[inline]
 pub(crate) fn flipped(flip: Flip) -> bool {
-    cfg!(feature = "flips") && FLIPS.with(|set| set.get() >> (flip as u32) & 1 == 1)
+    cfg!(feature = "flips") && FLIP.with(|now| now.get() == Some(flip))
 }
 
-/// Runs `call` with the given flips, and with none afterwards.
-pub fn with_flips<T>(set: u128, call: impl FnOnce() -> T) -> T {
-    FLIPS.with(|flips| flips.set(set));
+/// Runs `call` with the given flip, and with none afterwards.
+pub fn with_flip<T>(flip: Option<Flip>, call: impl FnOnce() -> T) -> T {
+    FLIP.with(|now| now.set(flip));
     let result = call();
-    FLIPS.with(|flips| flips.set(0));
+    FLIP.with(|now| now.set(None));
     result
 }

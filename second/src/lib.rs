@@ -2,8 +2,8 @@
 //! "Document 01" in comments is 01-scope.md; "decision N" is an entry of docs/DECISIONS.md.
 //!
 //! The model takes records by value and hands them back: `transfer`, `event`, `firmware_answer`, `board_step`, `int_pin`;
-//! `classroom` has sixteen boards. `runs` makes lists of calls, `script` prints them for the console, `compare` plays them
-//! on this model and another, `compare_classes` the classroom's.
+//! `classroom` has sixteen boards, `lesson` files of calls. `runs` makes lists of calls, `script` prints them for the console,
+//! `compare` plays them on this model and another, `compare_classes` the classroom's, `compare_lessons` lessons.
 //! The other one is the proved library where it is linked (build.rs, `ffi`, `library`).
 
 #![deny(unsafe_code)]
@@ -14,12 +14,14 @@ pub mod chip;
 pub mod classroom;
 pub mod compare;
 pub mod compare_classes;
+pub mod compare_lessons;
 mod control;
 mod descriptors;
 pub mod ffi;
 pub mod fields;
 mod firmware;
 pub mod flips;
+pub mod lesson;
 pub mod library;
 pub mod measure;
 pub mod noticed;

@@ -1,5 +1,5 @@
 //! The proved library as a model to compare with: its fields by the names of `fields::FIELDS`, its `observe`, of a chip and
-//! of a desk.
+//! of a desk; its lessons.
 
 use crate::ffi::{Chip, Desk, Firmware, Ring};
 use crate::fields::FIELDS;
@@ -142,8 +142,10 @@ mod linked {
     use crate::bus::Event;
     use crate::compare::{Given, Other};
     use crate::compare_classes::OtherClassroom;
+    use crate::compare_lessons::{OtherLessons, Played};
     use crate::ffi::Linked;
-    use crate::runs::Call;
+    use crate::lesson::LessonAnswer;
+    use crate::runs::{Call, Parts};
     use crate::{ffi, Firmware};
 
     /// The linked library.
@@ -230,6 +232,31 @@ mod linked {
 
         fn observe(&self, room: &ffi::Classroom, desk: usize) -> Vec<u8> {
             observe_desk(&room.desks[desk])
+        }
+    }
+
+    fn lesson_given(answer: ffi::LessonAnswer) -> LessonAnswer {
+        let ffi::LessonAnswer { refusal, found, count } = answer;
+        LessonAnswer { refusal, found, count }
+    }
+
+    impl OtherLessons for Library {
+        fn check_lesson(&self, file: &[u8]) -> LessonAnswer {
+            lesson_given(ffi::check_lesson(file))
+        }
+
+        fn write_lesson(&self, parts: &Parts, file: &mut [u8]) -> LessonAnswer {
+            let Parts { kinds, ticks, lengths, bodies } = parts;
+            lesson_given(ffi::write_lesson(kinds, ticks, lengths, bodies, file))
+        }
+
+        fn replay(&self, file: &[u8], output: &mut [u8]) -> (ffi::Chip, Played) {
+            let ffi::ReplayAnswer { chip, refusal, pin, found, count } = ffi::replay(file, output);
+            (chip, Played { refusal, pin, found, count })
+        }
+
+        fn elapsed(&self, from: u32, to: u32) -> u32 {
+            ffi::elapsed(from, to)
         }
     }
 }

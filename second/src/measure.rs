@@ -7,14 +7,25 @@ use std::time::Instant;
 pub const ROUNDS: usize = 25;
 /// Calls of one round.
 pub const CALLS: u32 = 20_000;
+/// Lessons played in one round.
+pub const REPLAYS: u32 = 400;
 
 /// Nanoseconds a call. Each answer counts as used; a caller reads its record anew for each call (`black_box`).
-pub fn time<T>(mut call: impl FnMut() -> T) -> f64 {
+pub fn time<T>(call: impl FnMut() -> T) -> f64 {
+    time_each(CALLS, call)
+}
+
+/// Nanoseconds a replay.
+pub fn time_replay<T>(replay: impl FnMut() -> T) -> f64 {
+    time_each(REPLAYS, replay)
+}
+
+fn time_each<T>(calls: u32, mut call: impl FnMut() -> T) -> f64 {
     let start = Instant::now();
-    for _ in 0..CALLS {
+    for _ in 0..calls {
         black_box(&call());
     }
-    start.elapsed().as_nanos() as f64 / f64::from(CALLS)
+    start.elapsed().as_nanos() as f64 / f64::from(calls)
 }
 
 /// What is measured, on what, by which command.

@@ -2,7 +2,8 @@
 
 use crate::compare::{compare, Other, Second};
 use crate::compare_classes::{compare_classes, OtherClassroom};
-use crate::flips::{BOARD, CLASSROOM};
+use crate::compare_lessons::{compare_trial, OtherLessons};
+use crate::flips::{BOARD, CLASSROOM, LESSONS};
 use crate::runs::*;
 
 /// How many calls of a stream of lists are played until the models differ.
@@ -35,7 +36,7 @@ pub fn unnoticed_flips<R: Other>(reference: &R) -> Vec<&'static str> {
     let mut missed = Vec::new();
     println!("{:<60}{:>8}{:>8}{:>8}{:>8}", "calls until noticed by", "built", "walks", "pokes", "tables");
     for (flip, text) in BOARD {
-        let flipped = Second { flips: 1 << *flip as u32 };
+        let flipped = Second { flip: Some(*flip) };
         let built = calls_until_noticed(reference, &flipped, from_power_on());
         let walks = calls_until_noticed(reference, &flipped, seeded(|rng| walk(rng, 400), 200));
         let pokes = calls_until_noticed(reference, &flipped, seeded(sound_record, 2000));
@@ -53,7 +54,7 @@ pub fn unnoticed_class_flips<R: OtherClassroom>(reference: &R) -> Vec<&'static s
     let mut missed = Vec::new();
     println!("{:<60}{:>8}", "orders until noticed by", "classes");
     for (flip, text) in CLASSROOM {
-        let flipped = Second { flips: 1 << *flip as u32 };
+        let flipped = Second { flip: Some(*flip) };
         let mut orders = 0;
         let noticed = (0..4000).map(class_list).any(|list| {
             let difference = compare_classes(reference, &flipped, &list);
@@ -63,6 +64,24 @@ pub fn unnoticed_class_flips<R: OtherClassroom>(reference: &R) -> Vec<&'static s
         if noticed {
             println!("{text:<60}{orders:>8}");
         } else {
+            missed.push(*text);
+        }
+    }
+    missed
+}
+
+/// Prints the table of the lessons' flips; those that the random trials do not notice.
+pub fn unnoticed_lesson_flips<R: OtherLessons>(reference: &R) -> Vec<&'static str> {
+    let show = |n: Option<usize>| n.map_or("-".to_string(), |n| (n + 1).to_string());
+    let mut missed = Vec::new();
+    println!("{:<60}{:>8}{:>8}", "trials until noticed by", "random", "tables");
+    for (flip, text) in LESSONS {
+        let flipped = Second { flip: Some(*flip) };
+        let differs = |trial: Trial| compare_trial(reference, &flipped, &trial).is_some();
+        let random = (0..4000).map(lesson_trial).position(differs);
+        let tables = lesson_tables().position(differs);
+        println!("{text:<60}{:>8}{:>8}", show(random), show(tables));
+        if random.is_none() {
             missed.push(*text);
         }
     }

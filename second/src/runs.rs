@@ -1,11 +1,15 @@
-//! Lists of calls for both models: random walks, built states, requests, refusals, records by pokes, whole tables; and of
-//! orders to a classroom.
+//! Lists of calls for both models: random walks, built states, requests, refusals, records by pokes, whole tables; of orders
+//! to a classroom; and lessons.
 
 mod built;
 mod bursts;
 mod classes;
+mod damages;
 mod enumeration;
+mod lesson_tables;
+mod lessons;
 mod parts;
+mod recipe;
 mod records;
 mod refusals;
 mod requests;
@@ -16,8 +20,12 @@ mod walk;
 pub use built::built;
 pub use bursts::{any_burst, burst_states, two_bursts};
 pub use classes::{class, class_list, same_at_one_desk, unsound_class, Order, KEY, OPENED};
+pub use damages::{all_damages, damaged};
 pub use enumeration::{enumeration, request_pairs};
+pub use lesson_tables::{lesson_tables, small_lessons};
+pub use lessons::{file_of, lesson, lesson_trial, size_of, sized, timed, Parts, Timed, Trial};
 pub use parts::*;
+pub use recipe::recipe;
 pub use records::{sound_record, unsound_record};
 pub use refusals::refusals;
 pub use requests::requests;

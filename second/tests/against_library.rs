@@ -1,5 +1,5 @@
 //! The second model against the proved library (libcapi.a): every answer, every lent byte, everything observable.
-//! A difference is printed as a console script. `COMPARE_SEED` (decimal) and `COMPARE_CALLS` choose other runs.
+//! A difference is printed as a console script. `COMPARE_SEED` (decimal), `COMPARE_CALLS` and `COMPARE_LESSONS` choose other runs.
 
 #[cfg(not(capi))]
 #[test]
@@ -11,14 +11,16 @@ fn skipped_without_the_library() {
 mod linked {
     use second::compare::{compare, shortest, Second};
     use second::compare_classes::{compare_classes, shortest_class, told_at};
+    use second::compare_lessons::{compare_trial, shortest_trial, OtherLessons};
     use second::ffi::Linked;
+    use second::lesson::{self, LessonAnswer};
     use second::library::Library;
-    use second::noticed::{unnoticed_class_flips, unnoticed_flips};
+    use second::noticed::{unnoticed_class_flips, unnoticed_flips, unnoticed_lesson_flips};
     use second::runs::*;
     use second::script::script;
     use second::{ffi, firmware_answer, Endpoints, Firmware, FirmwareAnswer};
 
-    const RIGHT: Second = Second { flips: 0 };
+    const RIGHT: Second = Second { flip: None };
 
     fn number(name: &str, default: u64) -> u64 {
         std::env::var(name).map_or(default, |text| text.parse().unwrap_or_else(|_| panic!("{name} is not a number")))
@@ -171,6 +173,55 @@ mod linked {
     fn every_flip_of_the_classroom_is_noticed() {
         let missed = unnoticed_class_flips(&Library);
         assert!(missed.is_empty(), "not noticed by the classes: {missed:?}");
+    }
+
+    /// A trial on both.
+    fn agree_on_lesson(what: &str, trial: &Trial) {
+        if compare_trial(&Library, &RIGHT, trial).is_some() {
+            let (short, difference) = shortest_trial(&Library, &RIGHT, trial).expect("it differs");
+            panic!("{what} (library against second model) differs in {difference}\n{short:02X?}");
+        }
+    }
+
+    /// Random lessons, files and parts that are none: what checking, writing and playing answer, with every kind of room, every
+    /// lent byte, and the chip.
+    #[test]
+    fn lessons() {
+        let trials = number("COMPARE_LESSONS", 20_000);
+        for seed in (0..trials).map(|n| seed().wrapping_add(n)) {
+            agree_on_lesson(&format!("lesson, seed {seed}"), &lesson_trial(seed));
+        }
+        println!("lessons: {trials} trials agree");
+    }
+
+    /// Small lessons with each byte changed, cut at each length, and longer; files and parts at each limit.
+    #[test]
+    fn damaged_lessons() {
+        let trials = lesson_tables().map(|trial| agree_on_lesson("lesson tables", &trial)).count();
+        println!("lesson tables: {trials} trials agree");
+    }
+
+    /// A file that the second model reads is the one that the library writes for its lesson.
+    #[test]
+    fn lessons_written_again() {
+        let mut written = 0;
+        for seed in seed()..seed() + 2000 {
+            let Trial::File(file) = lesson_trial(seed) else { continue };
+            let Ok(entries) = lesson::read(&file) else { continue };
+            let entries: Vec<Timed> = entries.map(Timed::from).collect();
+            let mut again = vec![0; file.len()];
+            let answer = Library.write_lesson(&Parts::of(&entries), &mut again);
+            assert_eq!(answer, LessonAnswer { refusal: 0, found: 0, count: file.len() }, "seed {seed}");
+            assert!(again == file, "seed {seed}");
+            written += 1;
+        }
+        assert!(written > 500, "{written} files are lessons");
+    }
+
+    #[test]
+    fn every_flip_of_lessons_is_noticed() {
+        let missed = unnoticed_lesson_flips(&Library);
+        assert!(missed.is_empty(), "not noticed by the random trials: {missed:?}");
     }
 
     /// The library is the reference: each flip of the second model is a difference from it.

@@ -10,7 +10,7 @@ use second::runs::*;
 use second::Firmware;
 use std::collections::BTreeMap;
 
-const RIGHT: Second = Second { flips: 0 };
+const RIGHT: Second = Second { flip: None };
 
 /// Desk 3 is open with key 7, desk 5 with key 9.
 fn two_pupils() -> Classroom {

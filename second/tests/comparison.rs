@@ -1,12 +1,13 @@
 //! The comparison notices every flip; the model agrees with itself over a million calls.
 
 use second::compare::{compare, shortest, Second};
+use second::flips::Flip;
 use second::noticed::unnoticed_flips;
 use second::runs::*;
 use second::script::script;
 use std::time::Instant;
 
-const RIGHT: Second = Second { flips: 0 };
+const RIGHT: Second = Second { flip: None };
 
 #[test]
 fn every_flip_is_noticed() {
@@ -40,7 +41,7 @@ fn whole_tables_of_self_comparison() {
 
 #[test]
 fn a_difference_is_shortened_to_a_script() {
-    let flipped = Second { flips: 1 };
+    let flipped = Second { flip: Some(Flip::ToggleWhenSent) };
     let list = (0..).map(|seed| built(&mut Rng::new(seed))).find(|list| compare(&RIGHT, &flipped, list).is_some());
     let (short, _) = shortest(&RIGHT, &flipped, &list.unwrap()).unwrap();
     let text = script(&short);

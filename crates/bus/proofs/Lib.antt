@@ -1,4 +1,4 @@
 pub mod Events
 pub mod Accepted
-pub mod Quiet
+pub mod Replies
 pub mod Call

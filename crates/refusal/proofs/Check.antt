@@ -9,7 +9,7 @@ use lib.ListN.{length, length-map}
 use Rattle.bits.proofs.First.{testAt, first-none, noneGives, FirstAt, outcomeAt, first-at, ascending, first-only}
 use Rattle.refusal.specs.declared.Refusal.{Refusal}
 use Rattle.refusal.specs.declared.Refusal.the-variants.{Unsound, NoCommand, LongTransfer, ShortBuffer, UnknownEvent, OutPayload}
-use Rattle.refusal.specs.declared.Refusal.the-variants.{SetupPayload, BadAddress, NoDesk, DeskState, WrongKey, BadKey}
+use Rattle.refusal.specs.declared.Refusal.the-variants.{SetupPayload, BadAddress, NoDesk, DeskState, WrongKey, BadKey, NoLesson}
 use Rattle.refusal.specs.declared.Checked.{Checked}
 use Rattle.refusal.specs.declared.Checked.the-variants.{Accepted, Refused}
 use Rattle.refusal.specs.Number.{refusalNumber, refusalFound, refusalOf}
@@ -35,26 +35,27 @@ grounds-refuse (g ∷ gs) = grounds-refuse gs
 pub accepted-none : (gs : List (Bool × Refusal)) → check gs ≡ Accepted → (i : ℕ) → testAt gs i ≡ false
 accepted-none gs e i = sym (ground-test gs i) ∙ first-none isAccepted (map ground gs) Accepted (grounds-refuse gs) (ap isAccepted e) i
 
--- ---- the length that a refusal tells
+-- ---- what a refusal tells
 
--- none, unless it is 6 or 8
-pub found-none : (r : Refusal) → (refusalNumber r ≡ 6 → ⊥) → (refusalNumber r ≡ 8 → ⊥) → refusalFound r ≡ 0
-found-none Unsound six eight = refl
-found-none NoCommand six eight = refl
-found-none LongTransfer six eight = refl
-found-none ShortBuffer six eight = refl
-found-none UnknownEvent six eight = refl
-found-none (OutPayload n) six eight = absurd (six refl)
-found-none (SetupPayload n) six eight = absurd (eight refl)
-found-none BadAddress six eight = refl
-found-none NoDesk six eight = refl
-found-none DeskState six eight = refl
-found-none WrongKey six eight = refl
-found-none BadKey six eight = refl
+-- nothing, unless it is 6, 8 or 13
+pub found-none : (r : Refusal) → (refusalNumber r ≡ 6 → ⊥) → (refusalNumber r ≡ 8 → ⊥) → (refusalNumber r ≡ 13 → ⊥) → refusalFound r ≡ 0
+found-none Unsound six eight thirteen = refl
+found-none NoCommand six eight thirteen = refl
+found-none LongTransfer six eight thirteen = refl
+found-none ShortBuffer six eight thirteen = refl
+found-none UnknownEvent six eight thirteen = refl
+found-none (OutPayload n) six eight thirteen = absurd (six refl)
+found-none (SetupPayload n) six eight thirteen = absurd (eight refl)
+found-none BadAddress six eight thirteen = refl
+found-none NoDesk six eight thirteen = refl
+found-none DeskState six eight thirteen = refl
+found-none WrongKey six eight thirteen = refl
+found-none BadKey six eight thirteen = refl
+found-none (NoLesson n) six eight thirteen = absurd (thirteen refl)
 
 -- ---- a refusal by its number
 
--- number and length tell the refusal
+-- its number and what it tells are the refusal
 pub refusal-of-number : (r : Refusal) → refusalOf (refusalNumber r) (refusalFound r) ≡ r
 refusal-of-number Unsound = refl
 refusal-of-number NoCommand = refl
@@ -68,6 +69,7 @@ refusal-of-number NoDesk = refl
 refusal-of-number DeskState = refl
 refusal-of-number WrongKey = refl
 refusal-of-number BadKey = refl
+refusal-of-number (NoLesson n) = refl
 
 -- ---- a refused call
 

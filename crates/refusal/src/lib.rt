@@ -1,4 +1,4 @@
-// Why a call is refused (document 01, "Numbers of refusal", and document 02, Asks 1 and 3).
+// Why a call is refused (document 01, "Numbers of refusal", and document 02, Asks 1, 3 and 5).
 ghost use mathlib.Core.Path.{_≡_};
 ghost use Rattle.refusal.specs.Number.{refusalNumber, refusalFound, refusalOf};
 
@@ -27,6 +27,8 @@ pub enum Refusal {
     WrongKey,
     // On opening: the key is 0, or in use at another open desk.
     BadKey,
+    // A file is no lesson: the entry that is named.
+    NoLesson(usize),
 }
 
 // Whether a call is accepted, or why not.
@@ -52,10 +54,11 @@ impl Refusal {
             Refusal::DeskState => 10,
             Refusal::WrongKey => 11,
             Refusal::BadKey => 12,
+            Refusal::NoLesson(_n) => 13,
         }
     }
 
-    // The length that was found; 0 where the refusal is not one of a payload.
+    // What the refusal tells: the length that was found, of a payload; the entry, of a lesson; else 0.
     pub fn found(self) -> usize
         ensures { λ r. ⌜ r ≡ refusalFound self ⌝ }
     {
@@ -72,10 +75,11 @@ impl Refusal {
             Refusal::DeskState => 0,
             Refusal::WrongKey => 0,
             Refusal::BadKey => 0,
+            Refusal::NoLesson(n) => n,
         }
     }
 
-    // The refusal of this number, with this length where it tells one.
+    // The refusal of this number, with the length or the entry where it tells one.
     pub fn numbered(number: u8, found: usize) -> Self
         ensures { λ r. ⌜ r ≡ refusalOf number found ⌝ }
     {
@@ -91,6 +95,7 @@ impl Refusal {
             10 => Refusal::DeskState,
             11 => Refusal::WrongKey,
             12 => Refusal::BadKey,
+            13 => Refusal::NoLesson(found),
             _ => Refusal::BadAddress,
         }
     }

@@ -1,7 +1,8 @@
 //! Nanoseconds a call of the proved library and of this model, and their ratio, as a Markdown table.
 //! Both take their record by value and hand it back, as a user writes it, over the C boundary: a record that a C function takes by
 //! value is copied to the stack, which a Rust function spares. The last column is this model by a Rust call. Run it as `COMMAND` says.
-//! Words after ` -- ` choose the rows whose name has one of them in it; `-- burst` is all bursts of R0 to R4.
+//! A second table has lessons of 1, 16 and 64 KiB, played from power-on.
+//! Words after ` -- ` choose the rows whose name has one of them in it; `-- burst` is all bursts of R0 to R4, `-- replay` the lessons.
 //!
 //! With BEFORE_DIR=FOLDER before the command, FOLDER having an earlier commit's libcapi.a (`rt staticlib capi` there), that
 //! library is measured in the same run, in turn with the others: its times and its ratio stand before the library's.
@@ -16,7 +17,7 @@ fn main() {
 
 #[cfg(capi)]
 fn main() {
-    measured::print_table(&std::env::args().skip(1).collect::<Vec<_>>());
+    measured::print_tables(&std::env::args().skip(1).collect::<Vec<_>>());
 }
 
 #[cfg(capi)]
@@ -266,22 +267,82 @@ mod measured {
         let rows: String = words.iter().map(|word| format!(" {word:?}")).collect();
         let rows = if words.is_empty() { rows } else { format!(" --{rows}") };
         print_head(models, &format!("{folder}{}{rows}", super::COMMAND));
+    }
+
+    fn print_calls_head() {
         let (before, ratio) = if cfg!(before) { ("before, ns | ", "ratio before | ") } else { ("", "") };
         println!("| call | {before}library, ns | second model, ns | {ratio}ratio | second model by a Rust call, ns |");
         println!("|---|---:{}|", "|---:".repeat(if cfg!(before) { 5 } else { 3 }));
     }
 
     /// The rows whose name has one of the words in it; without words, all.
-    pub fn print_table(words: &[String]) {
+    pub fn print_tables(words: &[String]) {
         let chosen = |name: &str| words.is_empty() || words.iter().any(|word| name.contains(word));
         print_heads(words);
-        for case in cases().iter().filter(|case| chosen(&case.name)) {
+        let cases: Vec<Case> = cases().into_iter().filter(|case| chosen(&case.name)).collect();
+        let firmware = "firmware answer, device descriptor";
+        if !cases.is_empty() || chosen(firmware) {
+            print_calls_head();
+        }
+        for case in &cases {
             check(case);
             print_row(&case.name, || round(case));
         }
-        let firmware = "firmware answer, device descriptor";
         if chosen(firmware) {
             print_row(firmware, firmware_round);
+        }
+        println!();
+        let lessons = [1, 16, 64].map(|kib| (format!("replay of {kib} KiB"), recipe(1024 * kib)));
+        replays::print_table(lessons.iter().filter(|(name, _)| chosen(name)));
+    }
+
+    /// Lessons by `runs::recipe`.
+    mod replays {
+        use super::*;
+        use second::compare_lessons::OtherLessons;
+        use second::lesson::{self, ReplayAnswer};
+        use second::measure::{time_replay, REPLAYS};
+
+        /// This model's as it stands in a user's program. The slices are Rust's; no C program calls it.
+        #[allow(improper_ctypes_definitions)]
+        #[inline(never)]
+        extern "C" fn replay_second(file: &[u8], output: &mut [u8]) -> ReplayAnswer {
+            lesson::replay(file, output)
+        }
+
+        /// Both models play it alike; how many bytes they write.
+        fn check(name: &str, file: &[u8]) -> usize {
+            let (mut left, mut right) = (vec![0xEE; 2 * lesson::FILE], vec![0xEE; 2 * lesson::FILE]);
+            let (theirs, told) = Library.replay(file, &mut left);
+            let (ours, wanted) = Second::default().replay(file, &mut right);
+            assert_eq!(told, wanted, "{name}");
+            assert!(told.refusal == 0 && left == right, "{name}");
+            assert_eq!(Library.observe(&theirs), Second::default().observe(&ours), "{name}");
+            told.count
+        }
+
+        fn print_row(name: &str, file: &[u8]) {
+            let mut output = vec![0; check(name, file)];
+            let (mut library, mut second) = (f64::INFINITY, f64::INFINITY);
+            for _ in 0..ROUNDS {
+                library = library.min(time_replay(|| ffi::replay(black_box(file), black_box(&mut output[..]))));
+                second = second.min(time_replay(|| replay_second(black_box(file), black_box(&mut output[..]))));
+            }
+            let (n, size) = (file[1], file.len() as f64);
+            let (each, other) = (library / size, second / size);
+            let ratio = library / second;
+            println!("| {name} | {n} | {library:.0} | {second:.0} | {ratio:.2} | {each:.2} | {other:.2} |");
+        }
+
+        pub fn print_table<'l>(lessons: impl Iterator<Item = &'l (String, Vec<u8>)>) {
+            let mut lessons = lessons.peekable();
+            if lessons.peek().is_none() {
+                return;
+            }
+            println!("Lessons: rounds of {REPLAYS} replays, the output just long enough; a byte is one of the file.\n");
+            println!("| lesson | entries | library, ns | second model, ns | ratio | library, ns a byte | second model, ns a byte |");
+            println!("|---|---:|---:|---:|---:|---:|---:|");
+            lessons.for_each(|(name, file)| print_row(name, file));
         }
     }
 }

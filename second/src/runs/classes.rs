@@ -145,7 +145,7 @@ impl Class {
     }
 }
 
-fn plan_of(rng: &mut Rng) -> Vec<Call> {
+pub(super) fn plan_of(rng: &mut Rng) -> Vec<Call> {
     match rng.below(6) {
         0 => walk(rng, 60),
         1 => requests(rng),

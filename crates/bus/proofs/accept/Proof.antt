@@ -8,7 +8,7 @@ use Rattle.model.specs.Reply.{Outcome, Reply}
 use Rattle.chip.specs.Sound.{soundChip}
 use Rattle.chip.specs.declared.Chip.{Chip}
 use Rattle.bus.proofs.Accepted.{accepted-sound, accepted-room, accepted-code, accepted-out, accepted-setup}
-use Rattle.bus.proofs.Quiet.{quiet-buffer}
+use Rattle.bus.proofs.Replies.{quiet-buffer}
 use Rattle.bus.proofs.Events.{rule-of, below-ten}
 use Rattle.bus.proofs.accept.Statement.{statement}
 use Rattle.bus.proofs.accept.Tie as tie

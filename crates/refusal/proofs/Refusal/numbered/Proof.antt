@@ -37,11 +37,14 @@ returns-11 : tie.Need-returns-11
 returns-11 c = rw (c .match .keys11)
 
 returns-12 : tie.Need-returns-12
-returns-12 c =
+returns-12 c = rw (c .match .keys12)
+
+returns-13 : tie.Need-returns-13
+returns-13 c =
     let n = c .match .rest in
-    rw (ne-eqb _ 1 (n .0 .0 .0 .0 .0 .0 .0 .0 .0 .0 .1), ne-eqb _ 2 (n .0 .0 .0 .0 .0 .0 .0 .0 .0 .1), ne-eqb _ 3 (n .0 .0 .0 .0 .0 .0 .0 .0 .1), ne-eqb _ 4 (n .0 .0 .0 .0 .0 .0 .0 .1), ne-eqb _ 5 (n .0 .0 .0 .0 .0 .0 .1), ne-eqb _ 6 (n .0 .0 .0 .0 .0 .1), ne-eqb _ 8 (n .0 .0 .0 .0 .1), ne-eqb _ 9 (n .0 .0 .0 .1), ne-eqb _ 10 (n .0 .0 .1), ne-eqb _ 11 (n .0 .1), ne-eqb _ 12 (n .1))
+    rw (ne-eqb _ 1 (n .0 .0 .0 .0 .0 .0 .0 .0 .0 .0 .0 .1), ne-eqb _ 2 (n .0 .0 .0 .0 .0 .0 .0 .0 .0 .0 .1), ne-eqb _ 3 (n .0 .0 .0 .0 .0 .0 .0 .0 .0 .1), ne-eqb _ 4 (n .0 .0 .0 .0 .0 .0 .0 .0 .1), ne-eqb _ 5 (n .0 .0 .0 .0 .0 .0 .0 .1), ne-eqb _ 6 (n .0 .0 .0 .0 .0 .0 .1), ne-eqb _ 8 (n .0 .0 .0 .0 .0 .1), ne-eqb _ 9 (n .0 .0 .0 .0 .1), ne-eqb _ 10 (n .0 .0 .0 .1), ne-eqb _ 11 (n .0 .0 .1), ne-eqb _ 12 (n .0 .1), ne-eqb _ 13 (n .1))
 
 pub numbered-spec : {M : Type 1} → statement M
 numbered-spec =
     tie.close
-    (tie.spec returns returns-2 returns-3 returns-4 returns-5 returns-6 returns-7 returns-8 returns-9 returns-10 returns-11 returns-12)
+    (tie.spec returns returns-2 returns-3 returns-4 returns-5 returns-6 returns-7 returns-8 returns-9 returns-10 returns-11 returns-12 returns-13)

@@ -1,0 +1,4 @@
+pub mod Lesson
+pub mod Read
+pub mod Ticks
+pub mod Examples

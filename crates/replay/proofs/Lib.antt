@@ -1,0 +1,6 @@
+pub mod Numbers
+pub mod Put
+pub mod Turn
+pub mod Entries
+pub mod Most
+pub mod Call
