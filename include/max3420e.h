@@ -1,5 +1,5 @@
 /* The MAX3420E, a USB peripheral controller with an SPI interface, as a C library: libcapi.a, and
- * libcapi_classroom.a for the classroom.
+ * libcapi_classroom.a for the classroom, libcapi_lesson.a for lessons.
  *
  * The chip is a record. Every call takes it by value and hands back the next one: keep one record per chip and store
  * `answer.chip` after each call. A classroom of sixteen boards is a record too. The library keeps nothing and allocates
@@ -8,6 +8,9 @@
  * A refused call (`refusal` is not 0) hands the records back unchanged and writes no byte of `reply`. Else just the
  * first `count` bytes of `reply` are written. `bytes`, `payload` and `reply` are not null, point to as many bytes as is
  * said, and do not overlap. Event codes, limits and refusals are those of docs/.
+ *
+ * The calls on lessons take no record. What is lent to them is as above: not null, of as many elements as is said, and
+ * apart.
  */
 #ifndef MAX3420E_H
 #define MAX3420E_H
@@ -23,13 +26,17 @@ enum max3420e_limit {
     MAX3420E_BUFFER = 64,     /* bytes of a packet, at most; the room that an IN and a board step want */
     MAX3420E_SETUP = 8,       /* bytes of a SETUP */
     MAX3420E_TRANSFER = 4096, /* bytes of a transfer, at most, the command byte among them */
-    MAX3420E_DESKS = 16       /* desks of a classroom */
+    MAX3420E_DESKS = 16,      /* desks of a classroom */
+    MAX3420E_LESSON_FILE = 65536,  /* bytes of a lesson's file, at most */
+    MAX3420E_LESSON_ENTRIES = 255, /* entries of a lesson, at most */
+    MAX3420E_LESSON_ROW = 11       /* bytes of an entry in the file's table */
 };
 
 /* Why a call is refused. They are looked at in the order of this list; the first that applies is given.
- * 9 to 12 are those of the classroom's calls. */
+ * 9 to 12 are those of the classroom's calls; 13 is that of the calls on lessons, which else give only 4. */
 enum max3420e_refusal {
     MAX3420E_ACCEPTED = 0,
+    MAX3420E_NO_LESSON = 13,    /* a file, or what is to be written, is no lesson; `found` is the entry that is named */
     MAX3420E_NO_DESK = 9,       /* a desk's number is over 15 */
     MAX3420E_DESK_STATE = 10,   /* the desk is closed or, on opening, already open */
     MAX3420E_WRONG_KEY = 11,    /* the key is not the desk's */
@@ -83,6 +90,12 @@ enum max3420e_kind {
     MAX3420E_KIND_STALL = 1,
     MAX3420E_KIND_ACK = 2,   /* acknowledged without data */
     MAX3420E_KIND_DATA = 3   /* sent the bytes that are in `reply` */
+};
+
+/* What an entry of a lesson is; an event's code is the first byte of its body. */
+enum max3420e_entry_kind {
+    MAX3420E_ENTRY_TRANSFER = 1,
+    MAX3420E_ENTRY_EVENT = 2
 };
 
 /* The two buffers of a double-buffered endpoint; buffer i stands at byte 64 * i. */
@@ -239,6 +252,37 @@ typedef struct {
     size_t found;    /* 0: a step is never refused with 6 or 8 */
 } max3420e_desk_step_answer;
 
+/* ---- lessons: files of calls on a chip, with the ticks at which they were made; the firmware takes no part */
+
+/* A file is a version byte 1, a byte n, a table of n entries, then their bodies in the same order with no gaps. An entry
+ * has 11 bytes there: its kind (enum max3420e_entry_kind), a 32-bit tick, the 32-bit offset of its body from the file's
+ * start and the body's 16-bit length, low byte first. So the first body stands at 2 + 11 * n. `01 00` is a lesson of no
+ * entries.
+ *
+ * A transfer's body is the bytes that are sent. An event's body is its code (enum max3420e_event_code), then
+ *   input pins:  their byte;
+ *   SETUP, OUT:  address, endpoint, marks, payload;
+ *   IN:          address, endpoint, marks;
+ *   the others:  nothing.
+ * The marks are 1 for damaged or, at IN, acknowledged, plus 2 for an OUT's DATA1. A lesson may hold calls that are
+ * refused, as pupils make them: an event with an unknown code, another length or other marks plays as refusal 5, a
+ * transfer without a byte as 2. */
+
+/* What the check and the writer hand back. */
+typedef struct {
+    uint8_t refusal; /* enum max3420e_refusal: 0, 13 or 4 */
+    size_t found;    /* the entry that is named, from 0, if `refusal` is 13; else 0 */
+    size_t count;    /* the check: entries of the lesson; the writer: bytes of the file; 0 where it is refused */
+} max3420e_lesson_answer;
+
+typedef struct {
+    max3420e_chip chip; /* after the last call; where it is refused, at power-on */
+    uint8_t refusal;    /* enum max3420e_refusal: 0, 13 or 4; that of a single call is in `output` */
+    uint8_t pin;        /* enum max3420e_pin, of that record */
+    size_t found;       /* the entry that is named, from 0, if `refusal` is 13; else 0 */
+    size_t count;       /* bytes written to `output`; 0 where it is refused */
+} max3420e_replay_answer;
+
 /* The record at power-on. */
 max3420e_chip max3420e_power_on(void);
 
@@ -283,6 +327,34 @@ max3420e_desk_answer max3420e_desk_event(max3420e_classroom classroom, uint8_t d
 
 max3420e_desk_step_answer max3420e_desk_step(max3420e_classroom classroom, uint8_t desk, uint32_t key, uint8_t *reply,
                                              size_t room);
+
+/* Is this file a lesson? `count` is how many entries it has; no call is made. Refusal 13: `found` is the first entry that
+ * is missing or has a bad kind or offset, or n if only the file's end is not where the last body ends. A wrong version,
+ * a file under 2 bytes or over 65,536 is looked at first and names 0. */
+max3420e_lesson_answer max3420e_check_lesson(const uint8_t *file, size_t length);
+
+/* Writes a lesson's one file, which reads back as the same entries. Entry i is `kinds[i]`, `ticks[i]` and a body of
+ * `lengths[i]` bytes; `bodies` has all bodies one after the other, `size` bytes. The offsets are worked out here.
+ * `count` is the bytes of the file, 2 + 11 * kind_count + size, and just those are written.
+ * Refusal 13, naming 0: the three counts differ, the lengths do not add up to `size`, a kind is neither 1 nor 2, or there
+ * are over 255 entries or 65,536 bytes. Else 4: `room` is under the bytes of the file. Refused, it writes no byte. */
+max3420e_lesson_answer max3420e_write_lesson(const uint8_t *kinds, size_t kind_count, const uint32_t *ticks,
+                                             size_t tick_count, const uint16_t *lengths, size_t length_count,
+                                             const uint8_t *bodies, size_t size, uint8_t *file, size_t room);
+
+/* Plays a lesson: all its calls, one by one from power-on, each with room enough for its reply, just as
+ * max3420e_transfer and max3420e_event make them. `output` gets for each entry, in order:
+ *   the call's refusal or 0, the PID byte (enum max3420e_pid) or 0, a 16-bit count, low byte first, and so many bytes,
+ * those that a transfer gets back or an IN's packet. A refused call has PID 0 and count 0 and leaves the chip as it was;
+ * the next one is made all the same. `count` is how many bytes all this is, and just those are written.
+ * Refusal 13 as the check's. Else 4: they do not all fit in `room`. Refused, no byte at all is written, and `chip` is the
+ * record at power-on. 68 bytes for each entry and as many as the file has are always room enough (82,876 for any lesson),
+ * and then each call is made only once; with less room all calls are first made to measure, and again if it fits. */
+max3420e_replay_answer max3420e_replay(const uint8_t *file, size_t length, uint8_t *output, size_t room);
+
+/* The ticks from one entry to a later one: `to` less `from` modulo 2 to the 32, so that the count may wrap between them.
+ * A replay does not look at ticks. */
+uint32_t max3420e_elapsed(uint32_t from, uint32_t to);
 
 #ifdef __cplusplus
 }

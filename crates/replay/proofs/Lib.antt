@@ -4,3 +4,5 @@ pub mod Turn
 pub mod Entries
 pub mod Most
 pub mod Call
+pub mod Theorem
+pub mod Examples

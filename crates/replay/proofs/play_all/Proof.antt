@@ -1,26 +1,15 @@
-use Prim.Native.Nat.{_≤_}
-use lib.ListN.{length-take}
-use mathlib.Core.Path.{refl}
-use lib.ListN.{length}
+-- `play_all` meets its promise: entry by entry (`turned`), from `start` to the last. Between two entries the scratch buffer keeps its size.
+use mathlib.Core.Path.{_≡_, refl, sym, subst, _∙_}
+use Prim.Native.Nat.{ℕ, _-_, _<_, _≤_}
 use native.Mathlib.Omega.{arith}
-use Rattle.replay.proofs.Entries.{located, few, turned}
-use Rattle.chip.specs.declared.Chip.{Chip}
-use Prim.Native.Nat.{ℕ, _<_}
-use mathlib.Core.Path.{_≡_, sym, subst, _∙_}
-use Prim.Native.Nat.{_-_}
+use lib.ListN.{length, length-take}
 use borrow.Author.Needs.{needs}
+use Rattle.chip.specs.declared.Chip.{Chip}
 use Rattle.lesson.specs.Read.{lessonOf, entriesOf}
-use Rattle.replay.proofs.Turn.{Turn, start, turn, last-chip, last-size, last-written}
+use Rattle.replay.proofs.Turn.{Turn, start, last-chip, last-size, last-written}
+use Rattle.replay.proofs.Entries.{located, few, turned}
 use Rattle.replay.proofs.play_all.Statement.{statement}
 use Rattle.replay.proofs.play_all.Tie as tie
-use Rattle.replay.proofs.play_all.Reads as reads
-use Rattle.replay.proofs.play_all.Lts as lts
-use Rattle.chip.proofs.Chip.power_on.Reads as power-on-reads
-use Rattle.lesson.proofs.body_at.Reads as body-at-reads
-use Rattle.lesson.proofs.entry_count.Reads as entry-count-reads
-use Rattle.lesson.proofs.kind_at.Reads as kind-at-reads
-use Rattle.replay.proofs.play.Reads as play-reads
-use Rattle.replay.proofs.put_fitting.Reads as put-fitting-reads
 
 abbrev Inv-loop : tie.InvT-loop
 Inv-loop file output₀ n reply₀ chip₀ size₀ i₀ output reply chip size i =
@@ -29,77 +18,110 @@ Inv-loop file output₀ n reply₀ chip₀ size₀ i₀ output reply chip size i
 abbrev μ-loop : tie.MeasureT-loop
 μ-loop file output₀ n reply₀ chip₀ size₀ i₀ output reply chip size i = n - i
 
--- src/lib.rt:91:9
-entry-count-requires : tie.Need-entry-count-requires Inv-loop μ-loop
-entry-count-requires c κs = c .before .before .pre
-
--- src/lib.rt:93:9
-power-on-requires : tie.Need-power-on-requires Inv-loop μ-loop
-power-on-requires c κs = search needs
-
--- src/lib.rt:96:5
+-- before the first entry
 loop-holds : tie.Need-loop-holds Inv-loop μ-loop
-loop-holds c = (subst (λ (d : Chip). Turn (entriesOf (lessonOf (c .before .before .before .before .args .file .now))) 0 d 0 (c .before .before .before .before .args .output .now) (c .before .before .before .before .args .output .now)) (sym (c .power-on .ensures)) (start (entriesOf (lessonOf (c .before .before .before .before .args .file .now))) (c .before .before .before .before .args .output .now)), refl)
+loop-holds c =
+    let a = c .before .before .before .before .args in
+    let l = entriesOf (lessonOf (a .file .now)) in
+    (subst (λ (d : Chip). Turn l 0 d 0 (a .output .now) (a .output .now)) (sym (c .power-on .ensures)) (start l (a .output .now)), refl)
 
--- src/lib.rt:97:13
+-- entry i is there
 kind-at-requires : tie.Need-kind-at-requires Inv-loop μ-loop
-kind-at-requires c κs = located (c .before .before .before .before .before .before .args .file .now) (c .before .before .before .before .before .before .pre) (c .before .loop .i) (subst (λ (m : ℕ). c .before .loop .i < m) (c .before .before .before .entry-count .ensures .0) (c .loop-test .taken))
+kind-at-requires c κs =
+    let begun = c .before .before .before .before .before .before in
+    let i = c .before .loop .i in
+    located (begun .args .file .now) (begun .pre) i
+    (subst (λ (m : ℕ). i < m) (c .before .before .before .entry-count .ensures .0) (c .loop-test .taken))
 
--- src/lib.rt:98:39
 body-at-requires : tie.Need-body-at-requires Inv-loop μ-loop
-body-at-requires c κs = located (c .before .before .before .before .before .before .before .args .file .now) (c .before .before .before .before .before .before .before .pre) (c .before .before .loop .i) (subst (λ (m : ℕ). c .before .before .loop .i < m) (c .before .before .before .before .entry-count .ensures .0) (c .before .loop-test .taken))
+body-at-requires c κs =
+    let begun = c .before .before .before .before .before .before .before in
+    let i = c .before .before .loop .i in
+    located (begun .args .file .now) (begun .pre) i
+    (subst (λ (m : ℕ). i < m) (c .before .before .before .before .entry-count .ensures .0) (c .before .loop-test .taken))
 
--- src/lib.rt:98:65
 slice-aggregate-play : tie.Need-slice-aggregate-play Inv-loop μ-loop
 slice-aggregate-play c = sym (c .before .before .before .before .loop .inv .1)
 
--- src/lib.rt:98:13
-play-requires : tie.Need-play-requires Inv-loop μ-loop
-play-requires c κs = search needs
-
--- src/lib.rt:99:21
-cast-count : tie.Need-cast-count Inv-loop μ-loop
-cast-count c = search needs
-
--- src/lib.rt:100:63
+-- its reply is in the scratch buffer
 array-share-prefix-reply : tie.Need-array-share-prefix-reply Inv-loop μ-loop
-array-share-prefix-reply c = omega (arith, few (c .before .before .before .before .before .before .before .before .loop .chip) (c .before .before .before .before .before .before .kind-at .result) (c .before .before .before .before .before .body-at .result .now) (c .before .before .before .before .before .before .before .before .loop .reply) (c .before .before .before .play .last .1 .1 .1 .0) (c .before .before .before .play .result) (c .before .before .before .before .before .before .before .before .loop .inv .1) (c .before .before .before .play .ensures .0), c .before .before .before .before .before .before .before .before .loop .inv .1, c .before .before .before .play .kept)
+array-share-prefix-reply c =
+    let play = c .before .before .before .play in
+    let body = c .before .before .before .before .before in
+    let loop = body .before .before .before .loop in
+    let most = few (loop .chip) (body .before .kind-at .result) (body .body-at .result .now) (loop .reply) (play .last .1 .1 .1 .0)
+    (play .result) (loop .inv .1) (play .ensures .0) in
+    omega (arith, most, loop .inv .1, play .kept)
 
--- src/lib.rt:100:63
 slice-aggregate-put-fitting : tie.Need-slice-aggregate-put-fitting Inv-loop μ-loop
-slice-aggregate-put-fitting c = omega (arith, length-take (c .before .before .before .before .play .result .count) (c .before .before .before .before .play .last .1 .1 .1 .0), few (c .before .before .before .before .before .before .before .before .before .loop .chip) (c .before .before .before .before .before .before .before .kind-at .result) (c .before .before .before .before .before .before .body-at .result .now) (c .before .before .before .before .before .before .before .before .before .loop .reply) (c .before .before .before .before .play .last .1 .1 .1 .0) (c .before .before .before .before .play .result) (c .before .before .before .before .before .before .before .before .before .loop .inv .1) (c .before .before .before .before .play .ensures .0), c .before .before .before .before .before .before .before .before .before .loop .inv .1, c .before .before .before .before .play .kept)
+slice-aggregate-put-fitting c =
+    let play = c .before .before .before .before .play in
+    let body = c .before .before .before .before .before .before in
+    let loop = body .before .before .before .loop in
+    let most = few (loop .chip) (body .before .kind-at .result) (body .body-at .result .now) (loop .reply) (play .last .1 .1 .1 .0)
+    (play .result) (loop .inv .1) (play .ensures .0) in
+    omega (arith, length-take (play .result .count) (play .last .1 .1 .1 .0), most, loop .inv .1, play .kept)
 
--- src/lib.rt:100:9
 put-fitting-requires : tie.Need-put-fitting-requires Inv-loop μ-loop
-put-fitting-requires c κs = (omega (arith, c .before .before .before .before .before .before .before .before .before .loop .inv .0 .small, c .before .before .before .before .before .before .before .before .before .before .before .entry-count .ensures .1, c .before .before .before .before .before .before .before .before .loop-test .taken), omega (arith, length-take (c .before .before .before .before .play .result .count) (c .before .before .before .before .play .last .1 .1 .1 .0), few (c .before .before .before .before .before .before .before .before .before .loop .chip) (c .before .before .before .before .before .before .before .kind-at .result) (c .before .before .before .before .before .before .body-at .result .now) (c .before .before .before .before .before .before .before .before .before .loop .reply) (c .before .before .before .before .play .last .1 .1 .1 .0) (c .before .before .before .before .play .result) (c .before .before .before .before .before .before .before .before .before .loop .inv .1) (c .before .before .before .before .play .ensures .0)))
+put-fitting-requires c κs =
+    let play = c .before .before .before .before .play in
+    let body = c .before .before .before .before .before .before in
+    let loop = body .before .before .before .loop in
+    let most = few (loop .chip) (body .before .kind-at .result) (body .body-at .result .now) (loop .reply) (play .last .1 .1 .1 .0)
+    (play .result) (loop .inv .1) (play .ensures .0) in (
+      omega (arith, loop .inv .0 .small, body .before .before .before .before .before .entry-count .ensures .1, body .before .before .loop-test .taken),
+      omega (arith, length-take (play .result .count) (play .last .1 .1 .1 .0), most),
+    )
 
--- src/lib.rt:102:24
-add-size : tie.Need-add-size Inv-loop μ-loop
-add-size c = search needs
-
--- src/lib.rt:102:16
 add-size-2 : tie.Need-add-size-2 Inv-loop μ-loop
-add-size-2 c = omega (arith, c .before .before .before .before .before .before .before .before .before .before .before .before .before .loop .inv .0 .small, c .before .before .before .before .before .before .before .before .before .before .before .before .before .before .before .entry-count .ensures .1, c .before .before .before .before .before .before .before .before .before .before .before .before .loop-test .taken, few (c .before .before .before .before .before .before .before .before .before .before .before .before .before .loop .chip) (c .before .before .before .before .before .before .before .before .before .before .before .kind-at .result) (c .before .before .before .before .before .before .before .before .before .before .body-at .result .now) (c .before .before .before .before .before .before .before .before .before .before .before .before .before .loop .reply) (c .before .before .before .before .before .before .before .before .play .last .1 .1 .1 .0) (c .before .before .before .before .before .before .before .before .play .result) (c .before .before .before .before .before .before .before .before .before .before .before .before .before .loop .inv .1) (c .before .before .before .before .before .before .before .before .play .ensures .0))
+add-size-2 c =
+    let play = c .before .before .before .before .before .before .before .before .play in
+    let body = c .before .before .before .before .before .before .before .before .before .before in
+    let loop = body .before .before .before .loop in
+    let most = few (loop .chip) (body .before .kind-at .result) (body .body-at .result .now) (loop .reply) (play .last .1 .1 .1 .0)
+    (play .result) (loop .inv .1) (play .ensures .0) in
+    omega (arith, loop .inv .0 .small, body .before .before .before .before .before .entry-count .ensures .1, body .before .before .loop-test .taken, most)
 
--- src/lib.rt:103:13
 add-i : tie.Need-add-i Inv-loop μ-loop
-add-i c = omega (arith, c .before .before .before .before .before .before .before .before .before .before .before .before .before .before .before .entry-count .ensures .1, c .before .before .before .before .before .before .before .before .before .before .before .before .loop-test .taken)
+add-i c =
+    let body = c .before .before .before .before .before .before .before .before .before .before in
+    omega (arith, body .before .before .before .before .before .entry-count .ensures .1, body .before .before .loop-test .taken)
 
--- src/lib.rt:96:5
 loop-less : tie.Need-loop-less Inv-loop μ-loop
 loop-less c = omega (arith, c .before .before .before .before .before .before .before .before .before .before .before .before .loop-test .taken)
 
--- src/lib.rt:96:5
+-- the next turn
 loop-again : tie.Need-loop-again Inv-loop μ-loop
-loop-again c = (turned (c .before .before .before .before .before .before .before .before .before .before .before .before .before .before .before .before .before .before .args .file .now) (c .before .before .before .before .before .before .before .before .before .before .before .before .before .before .before .before .before .before .pre) (c .before .before .before .before .before .before .before .before .before .before .before .before .before .loop .i) (subst (λ (m : ℕ). c .before .before .before .before .before .before .before .before .before .before .before .before .before .loop .i < m) (c .before .before .before .before .before .before .before .before .before .before .before .before .before .before .before .entry-count .ensures .0) (c .before .before .before .before .before .before .before .before .before .before .before .before .loop-test .taken)) (c .before .before .before .before .before .before .before .before .before .before .before .before .before .loop .chip) (c .before .before .before .before .before .before .before .before .before .before .before .before .before .loop .size) (c .before .before .before .before .before .before .before .before .before .before .before .before .before .loop .output) (c .before .before .before .before .before .before .before .before .before .before .before .before .before .before .before .before .before .before .args .output .now) (c .before .before .before .before .before .before .before .before .before .before .before .before .before .loop .inv .0) (c .before .before .before .before .before .before .before .before .before .before .before .kind-at .result) (c .before .before .before .before .before .before .before .before .before .before .body-at .result .now) (c .before .before .before .before .before .before .before .before .before .before .before .before .before .loop .reply) (c .before .before .before .before .before .before .before .before .play .last .1 .1 .1 .0) (c .before .before .before .put-fitting .last .0) (c .before .before .before .before .before .before .before .before .play .result) (c .before .before .before .before .before .before .before .before .before .before .before .kind-at .ensures) (c .before .before .before .before .before .before .before .before .before .before .body-at .ensures) (c .before .before .before .before .before .before .before .before .before .before .before .before .before .loop .inv .1) (c .before .before .before .before .before .before .before .before .play .ensures .0) (c .before .before .before .before .before .before .before .before .play .ensures .1) (c .before .before .before .put-fitting .ensures), omega (arith, c .before .before .before .before .before .before .before .before .before .before .before .before .before .loop .inv .1, c .before .before .before .before .before .before .before .before .play .kept))
+loop-again c =
+    let play = c .before .before .before .before .before .before .before .before .play in
+    let body = c .before .before .before .before .before .before .before .before .before .before in
+    let loop = body .before .before .before .loop in
+    let count = body .before .before .before .before .before in
+    let begun = count .before .before .before in
+    let put = c .before .before .before .put-fitting in (
+      turned (begun .args .file .now) (begun .pre) (loop .i)
+          (subst (λ (m : ℕ). loop .i < m) (count .entry-count .ensures .0) (body .before .before .loop-test .taken))
+          (loop .chip) (loop .size) (loop .output) (begun .args .output .now) (loop .inv .0) (body .before .kind-at .result)
+          (body .body-at .result .now) (loop .reply) (play .last .1 .1 .1 .0) (put .last .0) (play .result) (body .before .kind-at .ensures)
+          (body .body-at .ensures) (loop .inv .1) (play .ensures .0) (play .ensures .1) (put .ensures),
+      omega (arith, loop .inv .1, play .kept),
+    )
 
--- src/lib.rt:84:1
 same-length : tie.Need-same-length Inv-loop μ-loop
 same-length c = c .before .loop .inv .0 .sized
 
--- src/lib.rt:84:1
+-- after the last
 returns : tie.Need-returns Inv-loop μ-loop
-returns c = (last-chip (entriesOf (lessonOf (c .before .before .before .before .before .before .args .file .now))) (c .before .loop .i) (c .before .loop .chip) (c .before .loop .size) (c .before .loop .output) (c .before .before .before .before .before .before .args .output .now) (c .before .loop .inv .0) (subst (λ (m : ℕ). m ≤ c .before .loop .i) (c .before .before .before .entry-count .ensures .0) (c .loop-test .left)), last-size (entriesOf (lessonOf (c .before .before .before .before .before .before .args .file .now))) (c .before .loop .i) (c .before .loop .chip) (c .before .loop .size) (c .before .loop .output) (c .before .before .before .before .before .before .args .output .now) (c .before .loop .inv .0) (subst (λ (m : ℕ). m ≤ c .before .loop .i) (c .before .before .before .entry-count .ensures .0) (c .loop-test .left)), λ fits. last-written (entriesOf (lessonOf (c .before .before .before .before .before .before .args .file .now))) (c .before .loop .i) (c .before .loop .chip) (c .before .loop .size) (c .before .loop .output) (c .before .before .before .before .before .before .args .output .now) (c .before .loop .inv .0) (subst (λ (m : ℕ). m ≤ c .before .loop .i) (c .before .before .before .entry-count .ensures .0) (c .loop-test .left)) (omega (arith, fits, last-size (entriesOf (lessonOf (c .before .before .before .before .before .before .args .file .now))) (c .before .loop .i) (c .before .loop .chip) (c .before .loop .size) (c .before .loop .output) (c .before .before .before .before .before .before .args .output .now) (c .before .loop .inv .0) (subst (λ (m : ℕ). m ≤ c .before .loop .i) (c .before .before .before .entry-count .ensures .0) (c .loop-test .left)))))
+returns c =
+    let loop = c .before .loop in
+    let a = c .before .before .before .before .before .before .args in
+    let l = entriesOf (lessonOf (a .file .now)) in
+    let over = subst (λ (m : ℕ). m ≤ loop .i) (c .before .before .before .entry-count .ensures .0) (c .loop-test .left) in
+    let size = last-size l (loop .i) (loop .chip) (loop .size) (loop .output) (a .output .now) (loop .inv .0) over in (
+      last-chip l (loop .i) (loop .chip) (loop .size) (loop .output) (a .output .now) (loop .inv .0) over,
+      size,
+      λ fits. last-written l (loop .i) (loop .chip) (loop .size) (loop .output) (a .output .now) (loop .inv .0) over (omega (arith, fits, size)),
+    )
 
 pub play-all-spec : {M : Type 1} → statement M
 play-all-spec =
@@ -107,18 +129,18 @@ play-all-spec =
     (tie.spec
     Inv-loop
     μ-loop
-    entry-count-requires
-    power-on-requires
+    (λ c κs. c .before .before .pre)
+    (λ c κs. search needs)
     loop-holds
     kind-at-requires
     body-at-requires
     slice-aggregate-play
-    play-requires
-    cast-count
+    (λ c κs. search needs)
+    (λ c. search needs)
     array-share-prefix-reply
     slice-aggregate-put-fitting
     put-fitting-requires
-    add-size
+    (λ c. search needs)
     add-size-2
     add-i
     loop-less
