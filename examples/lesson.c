@@ -6,19 +6,20 @@
 
 enum { ENTRIES = 7, BODIES = 18, FILE_BYTES = 2 + ENTRIES * MAX3420E_LESSON_ROW + BODIES };
 
-/* The entries: kinds, ticks of a millisecond, lengths of the bodies, and the bodies one after the other. The ticks wrap. */
+/* The entries: kinds, ticks (they wrap), lengths of the bodies, and the bodies one after the other. */
 static const uint8_t kinds[ENTRIES] = {
-    MAX3420E_ENTRY_EVENT,    MAX3420E_ENTRY_EVENT,    MAX3420E_ENTRY_TRANSFER, MAX3420E_ENTRY_TRANSFER,
-    MAX3420E_ENTRY_TRANSFER, MAX3420E_ENTRY_EVENT,    MAX3420E_ENTRY_EVENT,
+    MAX3420E_ENTRY_EVENT,    MAX3420E_ENTRY_EVENT,
+    MAX3420E_ENTRY_TRANSFER, MAX3420E_ENTRY_TRANSFER, MAX3420E_ENTRY_TRANSFER,
+    MAX3420E_ENTRY_EVENT,    MAX3420E_ENTRY_EVENT
 };
 static const uint32_t ticks[ENTRIES] = {4294967000u, 4294967003u, 4294967200u, 4294967250u, 4294967290u, 4, 5};
 static const uint16_t lengths[ENTRIES] = {1, 1, 2, 4, 2, 4, 4};
 static const uint8_t bodies[BODIES] = {
     MAX3420E_POWER_ON,
     MAX3420E_STABLE,
-    0x7A, 0x08,                /* USBCTL: CONNECT */
-    0x12, 0x11, 0x22, 0x33,    /* three bytes to EP2INFIFO */
-    0x3A, 0x03,                /* EP2INBC: they are armed */
+    0x7A, 0x08,                 /* USBCTL: CONNECT */
+    0x12, 0x11, 0x22, 0x33,     /* three bytes to EP2INFIFO */
+    0x3A, 0x03,                 /* EP2INBC: they are armed */
     MAX3420E_IN_TOKEN, 0, 2, 0, /* address 0, endpoint 2; no ACK reaches the chip */
     MAX3420E_IN_TOKEN, 0, 2, 1  /* the same, acknowledged */
 };

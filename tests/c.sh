@@ -1,9 +1,9 @@
 #!/bin/sh
 # The C interface: the header's layout against the library, and the firmware of examples/ on the model, under the address and
-# undefined-behaviour sanitizers. Run it once both archives are built (rt staticlib capi; rt staticlib capi_classroom).
+# undefined-behaviour sanitizers. Run it once the three archives are built (rt staticlib NAME: capi, capi_classroom, capi_lesson).
 set -eu
 cd "$(dirname "$0")/.."
-for name in capi capi_classroom; do
+for name in capi capi_classroom capi_lesson; do
     [ -f "target/staticlib/lib$name.a" ] || { echo "c: lib$name.a is missing: rt staticlib $name" >&2; exit 1; }
 done
 work=$(mktemp -d)
@@ -15,7 +15,8 @@ build() {
     name=$1
     shift
     cc -std=c99 -Wall -Wextra -Werror -pedantic -g -fsanitize=address,undefined -fno-sanitize-recover=all \
-        -Iinclude -Iexamples "$@" target/staticlib/libcapi.a target/staticlib/libcapi_classroom.a -o "$work/$name"
+        -Iinclude -Iexamples "$@" target/staticlib/libcapi.a target/staticlib/libcapi_classroom.a \
+        target/staticlib/libcapi_lesson.a -o "$work/$name"
 }
 
 build layout tests/layout.c
@@ -30,4 +31,7 @@ cmp "$work/firmware.out" examples/firmware.out
 build classroom examples/classroom.c
 "$work/classroom" >"$work/classroom.out"
 cmp "$work/classroom.out" examples/classroom_c.out
-echo "c: layout, connect, firmware and classroom as expected"
+build lesson examples/lesson.c
+"$work/lesson" >"$work/lesson.out"
+cmp "$work/lesson.out" examples/lesson_c.out
+echo "c: layout, connect, firmware, classroom and lesson as expected"

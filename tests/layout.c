@@ -1,7 +1,7 @@
 /* Does libcapi.a lay out the records as include/max3420e.h does? Prints where each field stands. Checks that a refused
  * call hands a record of distinct values back, field by field; that each byte of it has its own limit of soundness; and
- * what single calls read and change, which tells fields with equal limits apart. The same of a classroom, desk by desk.
- * Exit status 1 on a mismatch. */
+ * what single calls read and change, which tells fields with equal limits apart. The same of a classroom, desk by desk,
+ * and of lessons: files by hand, and a replay beside the same calls made one by one. Exit status 1 on a mismatch. */
 #include <stdio.h>
 #include <string.h>
 
@@ -72,6 +72,9 @@ static const field other_fields[] = {
     OF(max3420e_desk_step_answer, classroom), OF(max3420e_desk_step_answer, refusal),
     OF(max3420e_desk_step_answer, kind), OF(max3420e_desk_step_answer, count), OF(max3420e_desk_step_answer, pin),
     OF(max3420e_desk_step_answer, found),
+    OF(max3420e_lesson_answer, refusal), OF(max3420e_lesson_answer, found), OF(max3420e_lesson_answer, count),
+    OF(max3420e_replay_answer, chip), OF(max3420e_replay_answer, refusal), OF(max3420e_replay_answer, pin),
+    OF(max3420e_replay_answer, found), OF(max3420e_replay_answer, count),
 };
 
 static unsigned mismatches;
@@ -518,6 +521,272 @@ static void check_desk_pin(void)
     }
 }
 
+/* A lesson of two entries by hand: a transfer of two bytes, and power-on. */
+static const uint8_t two_kinds[2] = {MAX3420E_ENTRY_TRANSFER, MAX3420E_ENTRY_EVENT};
+static const uint32_t two_ticks[2] = {0x44332211, 0x88776655};
+static const uint16_t two_lengths[2] = {2, 1};
+static const uint8_t two_bodies[3] = {0x58, 0x00, 0x01};
+static const uint8_t two_file[27] = {
+    1, 2,                                           /* version, entries */
+    1, 0x11, 0x22, 0x33, 0x44, 24, 0, 0, 0, 2, 0,   /* kind, tick, offset, length */
+    2, 0x55, 0x66, 0x77, 0x88, 26, 0, 0, 0, 1, 0,
+    0x58, 0x00, 0x01,                               /* R11 is read; power-on */
+};
+
+/* A byte at this place that is not as it was: the entry that is named, or -1 where it is a lesson all the same. */
+static int entry_named(size_t at)
+{
+    if (at < 2)
+        return 0;
+    size_t entry = (at - 2) / MAX3420E_LESSON_ROW, column = (at - 2) % MAX3420E_LESSON_ROW;
+    if (entry > 1 || (column >= 1 && column < 5))
+        return -1;
+    return (int)entry + (column >= 9); /* a length is told by where the next body, or the file's end, stands */
+}
+
+static void expect_check(const uint8_t *file, size_t length, size_t entries, const char *what)
+{
+    max3420e_lesson_answer answer = max3420e_check_lesson(file, length);
+    expect(answer.refusal == 0 && answer.found == 0 && answer.count == entries, what);
+}
+
+static void expect_no_lesson(const uint8_t *file, size_t length, size_t entry, const char *what)
+{
+    max3420e_lesson_answer answer = max3420e_check_lesson(file, length);
+    expect(answer.refusal == MAX3420E_NO_LESSON && answer.found == entry && answer.count == 0, what);
+}
+
+/* Lessons, and what 13 names: a file cut at each length, a byte changed at each place, one byte too many, the longest. */
+static void check_files(void)
+{
+    static const uint8_t none[3] = {1, 0};
+    static uint8_t longest[MAX3420E_LESSON_FILE + 1] = {1, 1, 1, 0, 0, 0, 0, 13, 0, 0, 0, 0xF3, 0xFF};
+    uint8_t file[sizeof two_file + 1] = {0};
+    expect_check(none, 2, 0, "a lesson of no entries");
+    expect_no_lesson(none, 3, 0, "a byte after no entries");
+    expect_check(two_file, sizeof two_file, 2, "a lesson of two entries");
+    for (size_t length = 0; length < sizeof two_file; length++)
+        expect_no_lesson(two_file, length, length < 13 ? 0 : length < 24 ? 1 : 2, "a file that is cut");
+    for (size_t at = 0; at < sizeof two_file; at++) {
+        memcpy(file, two_file, sizeof two_file), file[at] ^= 0x80;
+        if (entry_named(at) < 0)
+            expect_check(file, sizeof two_file, 2, "a file with another tick or body");
+        else
+            expect_no_lesson(file, sizeof two_file, (size_t)entry_named(at), "a file with a byte changed");
+    }
+    memcpy(file, two_file, sizeof two_file);
+    expect_no_lesson(file, sizeof file, 2, "a byte after the last body");
+    expect_check(longest, MAX3420E_LESSON_FILE, 1, "a file of 65,536 bytes");
+    longest[11]++;
+    expect_no_lesson(longest, sizeof longest, 0, "a file of 65,537 bytes");
+}
+
+/* The writer with so much room; what it leaves of a buffer is either the file, then the rest as it was, or all as it was. */
+static void expect_written(size_t room)
+{
+    uint8_t file[40], wanted[40];
+    memset(file, 0xEE, sizeof file), memset(wanted, 0xEE, sizeof wanted);
+    int fits = room >= sizeof two_file;
+    if (fits)
+        memcpy(wanted, two_file, sizeof two_file);
+    max3420e_lesson_answer answer = max3420e_write_lesson(two_kinds, 2, two_ticks, 2, two_lengths, 2, two_bodies, 3, file, room);
+    expect(answer.refusal == (fits ? 0 : MAX3420E_SHORT_BUFFER), "the writer's refusal");
+    expect(answer.found == 0 && answer.count == (fits ? sizeof two_file : 0), "the writer's count");
+    expect(memcmp(file, wanted, sizeof file) == 0, "the file that is written");
+}
+
+/* What the writer answers to parts of these counts, kinds 1 of ticks 0; refused, no byte is written. */
+static unsigned writer_refusal(size_t kinds, size_t ticks, size_t lengths, uint16_t first, size_t size, size_t room)
+{
+    static const uint32_t no_ticks[MAX3420E_LESSON_ENTRIES + 1];
+    static const uint8_t bodies[MAX3420E_LESSON_FILE];
+    static uint8_t all_kinds[MAX3420E_LESSON_ENTRIES + 1], file[MAX3420E_LESSON_FILE], before[MAX3420E_LESSON_FILE];
+    uint16_t all_lengths[MAX3420E_LESSON_ENTRIES + 1] = {first};
+    memset(all_kinds, MAX3420E_ENTRY_TRANSFER, sizeof all_kinds);
+    memset(file, 0xEE, sizeof file), memcpy(before, file, sizeof file);
+    max3420e_lesson_answer answer = max3420e_write_lesson(all_kinds, kinds, no_ticks, ticks, all_lengths, lengths, bodies,
+                                                          size, file, room);
+    size_t count = 2 + MAX3420E_LESSON_ROW * kinds + size;
+    expect(answer.found == 0 && answer.count == (answer.refusal == 0 ? count : 0), "the writer's count");
+    if (answer.refusal == 0)
+        expect_check(file, count, kinds, "the check of what is written");
+    else
+        expect(memcmp(file, before, sizeof file) == 0, "the writer, refused, writes");
+    return answer.refusal;
+}
+
+static void check_writer(void)
+{
+    for (size_t room = 0; room <= 40; room++)
+        expect_written(room);
+    for (unsigned kind = 0; kind < 256; kind++) {
+        uint8_t kinds[2] = {1, (uint8_t)kind}, file[40];
+        max3420e_lesson_answer answer = max3420e_write_lesson(kinds, 2, two_ticks, 2, two_lengths, 2, two_bodies, 3, file, 40);
+        expect(answer.refusal == (kind == 1 || kind == 2 ? 0 : MAX3420E_NO_LESSON) && answer.found == 0, "the writer and kinds");
+    }
+    const size_t all = MAX3420E_LESSON_FILE, most = MAX3420E_LESSON_ENTRIES;
+    expect(writer_refusal(0, 0, 0, 0, 0, all) == 0, "no entries are written");
+    expect(writer_refusal(3, 3, 3, 7, 7, all) == 0, "three entries are written");
+    expect(writer_refusal(2, 3, 3, 7, 7, 0) == MAX3420E_NO_LESSON, "a kind less, 13 before 4");
+    expect(writer_refusal(3, 2, 3, 7, 7, 0) == MAX3420E_NO_LESSON, "a tick less, 13 before 4");
+    expect(writer_refusal(3, 3, 2, 7, 7, 0) == MAX3420E_NO_LESSON, "a length less, 13 before 4");
+    expect(writer_refusal(3, 3, 3, 7, 6, all) == MAX3420E_NO_LESSON, "lengths of more than the bodies");
+    expect(writer_refusal(3, 3, 3, 7, 8, all) == MAX3420E_NO_LESSON, "lengths of less than the bodies");
+    expect(writer_refusal(most, most, most, 9, 9, all) == 0, "255 entries");
+    expect(writer_refusal(most + 1, most + 1, most + 1, 9, 9, all) == MAX3420E_NO_LESSON, "256 entries");
+    expect(writer_refusal(1, 1, 1, 65523, 65523, all) == 0, "a file of 65,536 bytes is written");
+    expect(writer_refusal(1, 1, 1, 65523, 65523, all - 1) == MAX3420E_SHORT_BUFFER, "room for 65,535 bytes");
+    expect(writer_refusal(1, 1, 1, 65524, 65524, all) == MAX3420E_NO_LESSON, "a file of 65,537 bytes");
+}
+
+/* A call: its body in a file, and the arguments of the same event. Code 0 is a transfer of the body, 13 no event. */
+typedef struct {
+    size_t size;
+    const uint8_t *body;
+    uint8_t code, pins, address, endpoint, damaged, data1, acknowledged;
+} call;
+
+#define BODY(...) .size = sizeof((const uint8_t[]){__VA_ARGS__}), .body = (const uint8_t[]){__VA_ARGS__}
+
+/* A burst from R5 on, and an OUT of 65 bytes. */
+static const uint8_t burst[MAX3420E_TRANSFER + 1] = {0x28}, long_out[4 + 65] = {11, 0, 1, 0};
+
+static const call calls[] = {
+    {BODY(2), .code = MAX3420E_STABLE},
+    {BODY(3), .code = MAX3420E_VBUS_ON},
+    {BODY(5, 0x0A), .code = MAX3420E_PINS, .pins = 0x0A},
+    /* CONNECT; INT as a level, for all of R11 */
+    {BODY(0x7A, 0x08)},
+    {BODY(0x8A, 0x08)},
+    {BODY(0x62, 0x3F)},
+    {BODY(0x82, 0x01)},
+    /* a packet at endpoint 2: lost, taken, no longer there; another address */
+    {BODY(0x12, 0x11, 0x22, 0x33)},
+    {BODY(0x3A, 0x03)},
+    {BODY(12, 0, 2, 0), .code = MAX3420E_IN_TOKEN, .endpoint = 2},
+    {BODY(12, 0, 2, 1), .code = MAX3420E_IN_TOKEN, .endpoint = 2, .acknowledged = 1},
+    {BODY(12, 0, 2, 1), .code = MAX3420E_IN_TOKEN, .endpoint = 2, .acknowledged = 1},
+    {BODY(12, 2, 0, 1), .code = MAX3420E_IN_TOKEN, .address = 2, .acknowledged = 1},
+    {BODY(10, 0, 0, 1, 1, 2, 3, 4, 5, 6, 7, 8), .code = MAX3420E_SETUP_TOKEN, .damaged = 1},
+    {BODY(10, 0, 0, 0, 8, 7, 6, 5, 4, 3, 2, 1), .code = MAX3420E_SETUP_TOKEN},
+    /* refusals 2, 3, four times 5, then 6, 8 and 7 */
+    {.size = 0, .body = burst},
+    {.size = sizeof burst, .body = burst},
+    {.size = 0, .body = burst, .code = 13},
+    {BODY(13), .code = 13},
+    {BODY(1, 0), .code = 13},
+    {BODY(12, 0, 2, 2), .code = 13},
+    {.size = sizeof long_out, .body = long_out, .code = MAX3420E_OUT_TOKEN, .endpoint = 1},
+    {BODY(10, 0, 0, 0, 1, 2, 3), .code = MAX3420E_SETUP_TOKEN},
+    {BODY(11, 200, 1, 0, 0x46), .code = MAX3420E_OUT_TOKEN, .address = 200, .endpoint = 1},
+    /* four values of an OUT's marks; no room for a third packet */
+    {BODY(11, 0, 1, 1, 0x40), .code = MAX3420E_OUT_TOKEN, .endpoint = 1, .damaged = 1},
+    {BODY(11, 0, 1, 0, 0x41, 0x42), .code = MAX3420E_OUT_TOKEN, .endpoint = 1},
+    {BODY(11, 0, 1, 3, 0x43), .code = MAX3420E_OUT_TOKEN, .endpoint = 1, .damaged = 1, .data1 = 1},
+    {BODY(11, 0, 1, 2, 0x44), .code = MAX3420E_OUT_TOKEN, .endpoint = 1, .data1 = 1},
+    {BODY(11, 0, 1, 0, 0x45), .code = MAX3420E_OUT_TOKEN, .endpoint = 1},
+    /* a count of two bytes */
+    {.size = 300, .body = burst},
+};
+
+/* The call made alone; its result, as a replay writes it, goes to `result`. Hands back how many bytes that is. */
+static size_t call_alone(const call *c, max3420e_chip *chip, uint8_t *pin, uint8_t *result)
+{
+    static uint8_t bytes[MAX3420E_TRANSFER];
+    const uint8_t *payload = c->size > 4 ? c->body + 4 : burst;
+    size_t length = c->size > 4 ? c->size - 4 : 0;
+    max3420e_answer answer;
+    if (c->code == 0)
+        answer = max3420e_transfer(*chip, c->body, c->size, bytes, sizeof bytes);
+    else
+        answer = max3420e_event(*chip, c->code, c->pins, c->address, c->endpoint, c->damaged, c->data1, c->acknowledged,
+                                payload, length, bytes, sizeof bytes);
+    result[0] = answer.refusal, result[1] = answer.pid;
+    result[2] = (uint8_t)(answer.count & 0xFF), result[3] = (uint8_t)(answer.count >> 8);
+    memcpy(result + 4, bytes, answer.count);
+    *chip = answer.chip, *pin = answer.pin;
+    return 4u + answer.count;
+}
+
+/* The file of these calls; hands back how many bytes it has. */
+static size_t write_calls(uint8_t *file, size_t room)
+{
+    static uint8_t bodies[8192];
+    uint8_t kinds[COUNT(calls)];
+    uint32_t ticks[COUNT(calls)];
+    uint16_t lengths[COUNT(calls)];
+    size_t size = 0;
+    for (size_t i = 0; i < COUNT(calls); i++) {
+        kinds[i] = calls[i].code == 0 ? MAX3420E_ENTRY_TRANSFER : MAX3420E_ENTRY_EVENT;
+        ticks[i] = (uint32_t)i * 0x12345678u, lengths[i] = (uint16_t)calls[i].size;
+        memcpy(bodies + size, calls[i].body, calls[i].size), size += calls[i].size;
+    }
+    max3420e_lesson_answer answer = max3420e_write_lesson(kinds, COUNT(calls), ticks, COUNT(calls), lengths, COUNT(calls),
+                                                          bodies, size, file, room);
+    expect(answer.refusal == 0, "the lesson of these calls");
+    return answer.count;
+}
+
+/* A replay that is refused: no byte of the output, and the record and the pin of power-on. */
+static void expect_refused(const uint8_t *file, size_t length, size_t room, unsigned refusal, size_t entry, const char *what)
+{
+    static uint8_t output[16384], before[16384];
+    memset(output, 0xEE, sizeof output), memcpy(before, output, sizeof output);
+    max3420e_chip start = max3420e_power_on();
+    max3420e_replay_answer answer = max3420e_replay(file, length, output, room);
+    expect(answer.refusal == refusal && answer.found == entry && answer.count == 0, what);
+    expect(memcmp(output, before, sizeof output) == 0, what);
+    expect(memcmp(&answer.chip, &start, sizeof start) == 0 && answer.pin == MAX3420E_PIN_HIGH, what);
+}
+
+/* A replay beside the same calls made one by one: just the room that is wanted, one byte less, and enough for any calls. */
+static void check_replay(void)
+{
+    static uint8_t file[8192], wanted[16384], output[16384];
+    uint8_t pin = 0;
+    max3420e_chip chip = max3420e_power_on();
+    size_t length = write_calls(file, sizeof file), size = 0;
+    memset(wanted, 0xEE, sizeof wanted);
+    for (size_t i = 0; i < COUNT(calls); i++)
+        size += call_alone(&calls[i], &chip, &pin, wanted + size);
+    expect(pin == MAX3420E_PIN_LOW, "a pin other than that of power-on");
+    const size_t enough = length + 68 * COUNT(calls), rooms[] = {size, size + 1, enough - 1, enough, sizeof output};
+    for (size_t i = 0; i < COUNT(rooms); i++) {
+        memset(output, 0xEE, sizeof output);
+        max3420e_replay_answer answer = max3420e_replay(file, length, output, rooms[i]);
+        expect(answer.refusal == 0 && answer.found == 0 && answer.count == size, "the answer of a replay");
+        expect(memcmp(output, wanted, sizeof output) == 0, "what a replay writes");
+        expect(memcmp(&answer.chip, &chip, sizeof chip) == 0 && answer.pin == pin, "the record after a replay");
+        expect_same(&answer.chip, &chip, "the record after a replay");
+    }
+    expect_refused(file, length, size - 1, MAX3420E_SHORT_BUFFER, 0, "a replay with one byte too little room");
+    expect_refused(file, length, 0, MAX3420E_SHORT_BUFFER, 0, "a replay with no room");
+    file[2 + 5 * MAX3420E_LESSON_ROW] = 9;
+    expect_refused(file, length, 0, MAX3420E_NO_LESSON, 5, "a replay of what is no lesson, 13 before 4");
+    expect_refused(file, length, sizeof output, MAX3420E_NO_LESSON, 5, "a replay of what is no lesson");
+}
+
+/* What is written, by hand: a lesson of no entries, and that of two. */
+static void check_replay_bytes(void)
+{
+    static const uint8_t none[2] = {1, 0}, wanted[11] = {0, 0, 2, 0, 0x00, 0x19, 0, 0, 0, 0, 0xEE};
+    max3420e_chip start = max3420e_power_on();
+    uint8_t output[11];
+    memset(output, 0xEE, sizeof output);
+    max3420e_replay_answer answer = max3420e_replay(none, 2, output, 0);
+    expect(answer.refusal == 0 && answer.count == 0 && output[0] == 0xEE, "a replay of no entries");
+    expect(memcmp(&answer.chip, &start, sizeof start) == 0, "the record after no entries");
+    answer = max3420e_replay(two_file, sizeof two_file, output, sizeof output);
+    expect(answer.refusal == 0 && answer.count == 10 && memcmp(output, wanted, sizeof output) == 0, "a replay of two entries");
+    expect(memcmp(&answer.chip, &start, sizeof start) == 0, "the record after power-on");
+}
+
+static void check_elapsed(void)
+{
+    expect(max3420e_elapsed(5, 5) == 0 && max3420e_elapsed(0x11223344, 0x55667789) == 0x44444445, "ticks between");
+    expect(max3420e_elapsed(0xFFFFFFF0, 0x10) == 0x20 && max3420e_elapsed(5, 4) == 0xFFFFFFFF, "ticks across the wrap");
+}
+
 int main(void)
 {
     print_fields(chip_fields, COUNT(chip_fields));
@@ -539,6 +808,11 @@ int main(void)
     check_unsound_desk();
     check_desk_calls();
     check_desk_pin();
+    check_files();
+    check_writer();
+    check_replay();
+    check_replay_bytes();
+    check_elapsed();
     if (mismatches > 0)
         return 1;
     printf("layout: %u fields agree\n", (unsigned)(COUNT(chip_fields) + COUNT(other_fields)));

@@ -90,19 +90,25 @@ fn play_all(file: &[u8], output: &mut [u8]) -> Run
 {
     let n = lesson::entry_count(file);
     let mut reply = [0u8; 4096];
-    let mut chip = Chip::power_on();
-    let mut size: usize = 0;
+    let mut run = Run {
+        chip: Chip::power_on(),
+        size: 0,
+    };
     let mut i: usize = 0;
     while i < n {
         let kind = lesson::kind_at(file, i);
-        let answer = play(chip, kind, lesson::body_at(file, i), &mut reply);
+        let answer = play(run.chip, kind, lesson::body_at(file, i), &mut reply);
         let count = answer.count as usize;
+        let size = run.size;
         put_fitting(output, size, answer.refusal, answer.pid, &reply[..count]);
-        chip = answer.chip;
-        size = size + (4 + count);
+        let chip = answer.chip;
+        run = Run {
+            chip,
+            size: size + (4 + count),
+        };
         i = i + 1;
     }
-    Run { chip, size }
+    run
 }
 
 // How many bytes the calls of a lesson are answered with.

@@ -12,11 +12,11 @@ use Rattle.replay.proofs.play_all.Statement.{statement}
 use Rattle.replay.proofs.play_all.Tie as tie
 
 abbrev Inv-loop : tie.InvT-loop
-Inv-loop file output₀ n reply₀ chip₀ size₀ i₀ output reply chip size i =
-    Turn (entriesOf (lessonOf file)) i chip size output output₀ × (length reply ≡ 4096)
+Inv-loop file output₀ n reply₀ run₀ i₀ output reply run i =
+    Turn (entriesOf (lessonOf file)) i (run .chip) (run .size) output output₀ × (length reply ≡ 4096)
 
 abbrev μ-loop : tie.MeasureT-loop
-μ-loop file output₀ n reply₀ chip₀ size₀ i₀ output reply chip size i = n - i
+μ-loop file output₀ n reply₀ run₀ i₀ output reply run i = n - i
 
 -- before the first entry
 loop-holds : tie.Need-loop-holds Inv-loop μ-loop
@@ -49,7 +49,7 @@ array-share-prefix-reply c =
     let play = c .before .before .before .play in
     let body = c .before .before .before .before .before in
     let loop = body .before .before .before .loop in
-    let most = few (loop .chip) (body .before .kind-at .result) (body .body-at .result .now) (loop .reply) (play .last .1 .1 .1 .0)
+    let most = few (loop .run .chip) (body .before .kind-at .result) (body .body-at .result .now) (loop .reply) (play .last .1 .1 .1 .0)
     (play .result) (loop .inv .1) (play .ensures .0) in
     omega (arith, most, loop .inv .1, play .kept)
 
@@ -58,7 +58,7 @@ slice-aggregate-put-fitting c =
     let play = c .before .before .before .before .play in
     let body = c .before .before .before .before .before .before in
     let loop = body .before .before .before .loop in
-    let most = few (loop .chip) (body .before .kind-at .result) (body .body-at .result .now) (loop .reply) (play .last .1 .1 .1 .0)
+    let most = few (loop .run .chip) (body .before .kind-at .result) (body .body-at .result .now) (loop .reply) (play .last .1 .1 .1 .0)
     (play .result) (loop .inv .1) (play .ensures .0) in
     omega (arith, length-take (play .result .count) (play .last .1 .1 .1 .0), most, loop .inv .1, play .kept)
 
@@ -67,18 +67,18 @@ put-fitting-requires c κs =
     let play = c .before .before .before .before .play in
     let body = c .before .before .before .before .before .before in
     let loop = body .before .before .before .loop in
-    let most = few (loop .chip) (body .before .kind-at .result) (body .body-at .result .now) (loop .reply) (play .last .1 .1 .1 .0)
+    let most = few (loop .run .chip) (body .before .kind-at .result) (body .body-at .result .now) (loop .reply) (play .last .1 .1 .1 .0)
     (play .result) (loop .inv .1) (play .ensures .0) in (
       omega (arith, loop .inv .0 .small, body .before .before .before .before .before .entry-count .ensures .1, body .before .before .loop-test .taken),
       omega (arith, length-take (play .result .count) (play .last .1 .1 .1 .0), most),
     )
 
-add-size-2 : tie.Need-add-size-2 Inv-loop μ-loop
-add-size-2 c =
+add-t23 : tie.Need-add-t23 Inv-loop μ-loop
+add-t23 c =
     let play = c .before .before .before .before .before .before .before .before .play in
     let body = c .before .before .before .before .before .before .before .before .before .before in
     let loop = body .before .before .before .loop in
-    let most = few (loop .chip) (body .before .kind-at .result) (body .body-at .result .now) (loop .reply) (play .last .1 .1 .1 .0)
+    let most = few (loop .run .chip) (body .before .kind-at .result) (body .body-at .result .now) (loop .reply) (play .last .1 .1 .1 .0)
     (play .result) (loop .inv .1) (play .ensures .0) in
     omega (arith, loop .inv .0 .small, body .before .before .before .before .before .entry-count .ensures .1, body .before .before .loop-test .taken, most)
 
@@ -101,7 +101,7 @@ loop-again c =
     let put = c .before .before .before .put-fitting in (
       turned (begun .args .file .now) (begun .pre) (loop .i)
           (subst (λ (m : ℕ). loop .i < m) (count .entry-count .ensures .0) (body .before .before .loop-test .taken))
-          (loop .chip) (loop .size) (loop .output) (begun .args .output .now) (loop .inv .0) (body .before .kind-at .result)
+          (loop .run .chip) (loop .run .size) (loop .output) (begun .args .output .now) (loop .inv .0) (body .before .kind-at .result)
           (body .body-at .result .now) (loop .reply) (play .last .1 .1 .1 .0) (put .last .0) (play .result) (body .before .kind-at .ensures)
           (body .body-at .ensures) (loop .inv .1) (play .ensures .0) (play .ensures .1) (put .ensures),
       omega (arith, loop .inv .1, play .kept),
@@ -117,10 +117,10 @@ returns c =
     let a = c .before .before .before .before .before .before .args in
     let l = entriesOf (lessonOf (a .file .now)) in
     let over = subst (λ (m : ℕ). m ≤ loop .i) (c .before .before .before .entry-count .ensures .0) (c .loop-test .left) in
-    let size = last-size l (loop .i) (loop .chip) (loop .size) (loop .output) (a .output .now) (loop .inv .0) over in (
-      last-chip l (loop .i) (loop .chip) (loop .size) (loop .output) (a .output .now) (loop .inv .0) over,
+    let size = last-size l (loop .i) (loop .run .chip) (loop .run .size) (loop .output) (a .output .now) (loop .inv .0) over in (
+      last-chip l (loop .i) (loop .run .chip) (loop .run .size) (loop .output) (a .output .now) (loop .inv .0) over,
       size,
-      λ fits. last-written l (loop .i) (loop .chip) (loop .size) (loop .output) (a .output .now) (loop .inv .0) over (omega (arith, fits, size)),
+      λ fits. last-written l (loop .i) (loop .run .chip) (loop .run .size) (loop .output) (a .output .now) (loop .inv .0) over (omega (arith, fits, size)),
     )
 
 pub play-all-spec : {M : Type 1} → statement M
@@ -141,7 +141,7 @@ play-all-spec =
     slice-aggregate-put-fitting
     put-fitting-requires
     (λ c. search needs)
-    add-size-2
+    add-t23
     add-i
     loop-less
     loop-again
