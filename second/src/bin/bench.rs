@@ -321,8 +321,15 @@ mod measured {
             told.count
         }
 
-        fn print_row(name: &str, file: &[u8]) {
-            let mut output = vec![0; check(name, file)];
+        /// With room for the most that such a file can be answered with, and with just what it is answered with.
+        fn print_rows(name: &str, file: &[u8]) {
+            let most = 68 * usize::from(file[1]) + file.len();
+            print_row(&format!("{name}, room for the most"), file, most);
+            print_row(&format!("{name}, just room enough"), file, check(name, file));
+        }
+
+        fn print_row(name: &str, file: &[u8], room: usize) {
+            let mut output = vec![0; room];
             let (mut library, mut second) = (f64::INFINITY, f64::INFINITY);
             for _ in 0..ROUNDS {
                 library = library.min(time_replay(|| ffi::replay(black_box(file), black_box(&mut output[..]))));
@@ -339,10 +346,10 @@ mod measured {
             if lessons.peek().is_none() {
                 return;
             }
-            println!("Lessons: rounds of {REPLAYS} replays, the output just long enough; a byte is one of the file.\n");
+            println!("Lessons: rounds of {REPLAYS} replays; a byte is one of the file.\n");
             println!("| lesson | entries | library, ns | second model, ns | ratio | library, ns a byte | second model, ns a byte |");
             println!("|---|---:|---:|---:|---:|---:|---:|");
-            lessons.for_each(|(name, file)| print_row(name, file));
+            lessons.for_each(|(name, file)| print_rows(name, file));
         }
     }
 }
