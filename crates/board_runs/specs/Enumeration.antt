@@ -1,4 +1,4 @@
--- Whole lessons on the board, each a list of board calls with its answers, from the power-on records of chip and firmware; worked out
+-- Whole enumerations on the board, each a list of board calls with its answers, from the power-on records of chip and firmware; worked out
 -- by hand from document 01. All numbers in hex.
 use mathlib.Core.Bool.{true, false}
 use mathlib.Core.List.{List, [], _∷_, _++_}
@@ -106,7 +106,7 @@ descriptor type index wlength = 0x80 ∷ 0x06 ∷ index ∷ type ∷ 0 ∷ 0 ∷
 abbrev pub string : ℕ → List Play
 string i = reads 0x07 (descriptor 0x03 i 0xff) (getD strings i [])
 
--- ---- the lessons
+-- ---- the enumerations
 
 -- powered, stable, VBUS, connected; a bus reset
 abbrev pub connected : List Play
@@ -160,5 +160,5 @@ resetInMiddle =
     ++ reads 0 (0x80 ∷ 0x08 ∷ 0 ∷ 0 ∷ 0 ∷ 0 ∷ 0x01 ∷ 0 ∷ []) (0x00 ∷ [])
     ++ refusesRequest 0 (0x82 ∷ 0x00 ∷ 0 ∷ 0 ∷ 0x83 ∷ 0 ∷ 0x02 ∷ 0 ∷ [])
 
-abbrev pub lessons : List (List Play)
-lessons = reported ∷ halted ∷ reconfigured ∷ resetInMiddle ∷ []
+abbrev pub enumerations : List (List Play)
+enumerations = reported ∷ halted ∷ reconfigured ∷ resetInMiddle ∷ []

@@ -1,1 +1,1 @@
-// Lists of calls, of the board and of `spi::transfer` and `bus::event`: definitions, theorems and lessons, no functions.
+// Lists of calls, of the board and of `spi::transfer` and `bus::event`: definitions, theorems and worked enumerations, no functions.
