@@ -38,7 +38,7 @@ const ROOM: usize = 4096;
 // A kind of entry: a transfer.
 const TRANSFER: u8 = 1;
 
-// What all calls of a lesson leave: the record, and how many bytes they are answered with.
+// What the calls of a lesson leave so far: the record, and how many bytes they are answered with.
 struct Run {
     chip: Chip,
     size: usize,
@@ -89,7 +89,7 @@ fn play_all(file: &[u8], output: &mut [u8]) -> Run
         → now (output .exit) ≡ lent (playedBytes (entriesOf (lessonOf (now (file .entry))))) (now (output .entry))) ⌝ }
 {
     let n = lesson::entry_count(file);
-    let mut reply = [0u8; 4096];
+    let mut reply = [0u8; ROOM];
     let mut run = Run {
         chip: Chip::power_on(),
         size: 0,
