@@ -119,6 +119,8 @@ check "a last line without an end" [ "$(answers 'power\nspi 58 00')" = "$(answer
 check "a comment behind a call" [ "$(answers 'spi 58 00 # R11\n')" = "1 reply 00 19 int=high" ]
 check "one digit, lower case" [ "$(answers 'spi a2 5\nspi A0 0\n')" = "$(answers 'spi A2 05\nspi A0 00\n')" ]
 check "nothing to read" [ -z "$(answers '')" ]
+check "tick is no line of the console" [ "$(answers 'tick 5\n')" \
+    = "1 $(tail -n 1 examples/mistakes.out | sed "s/^[0-9]* //; s/hello/tick/")" ]
 { printf 'spi'; repeated 4096 ' 0'; printf '\nspi'; repeated 4097 ' 0'; echo; } >"$work/transfers"
 check "transfers of 4,096 and 4,097 bytes" run transfers "$work/transfers"
 check "the first is answered whole" [ "$(head -n 1 "$work/transfers.out" | wc -w)" -eq 4099 ]
@@ -232,6 +234,181 @@ check "a classroom: two files" says "one file at most"
 check "a classroom: a full device" says "standard output: No space left"
 cp examples/bench.txt "$work/classroom"
 check "a file called classroom" [ "$(cd "$work" && "$OLDPWD/$program" ./classroom)" = "$(cat examples/bench.out)" ]
+
+# Lessons: recorded from a script, played from a file; every failure has status 1 and is told on standard error.
+# record NAME SCRIPT, play NAME FILE: end with status 0 and say nothing on standard error.
+record() { ./max3420e record "$2" "$work/$1.lesson" >"$work/$1.said" 2>"$work/err" && silent "$work/err"; }
+play() { ./max3420e replay "$2" >"$work/$1.out" 2>"$work/err" && silent "$work/err"; }
+# results FILE: the answers of a replay, or of the console, without what stands before them.
+results() { sed -E '/^[^ ]*: [0-9]+ entr(y|ies), /d; s/^[0-9]+ (tick [0-9]+ \+[0-9]+ )?//' "$1"; }
+# as_console NAME SCRIPT: what the lesson of a script is answered is what the console answers to its lines.
+as_console() {
+    record "$1" "$2" && play "$1" "$work/$1.lesson" || return 1
+    grep -v '^tick' "$2" | "$program" >"$work/lines.out"
+    results "$work/lines.out" >"$work/lines.results"
+    results "$work/$1.out" >"$work/$1.results"
+    [ -s "$work/$1.results" ] && same "$work/$1.results" "$work/lines.results"
+}
+for script in examples/lessons/*.txt; do
+    name=$(basename "$script" .txt)
+    lesson=examples/lessons/$name.lesson
+    check "$script" as_console "$name" "$script"
+    check "$script against its .lesson" same "$work/$name.lesson" "$lesson"
+    check "$lesson" play "$name" "$lesson"
+    check "$lesson against its .out" same "$work/$name.out" "examples/lessons/$name.out"
+    check "$script: what record says" [ "$(cat "$work/$name.said")" \
+        = "$work/$name.lesson: $(tail -n 1 "$work/$name.out" | sed 's/^[^ ]*: //; s/,.*//'), $(wc -c <"$lesson") bytes" ]
+    awk '{ printf "%s\r\n", $0 }' "$script" >"$work/crlf"
+    check "$script with CRLF" record crlf "$work/crlf"
+    check "$script with CRLF against LF" same "$work/crlf.lesson" "$lesson"
+done
+# Random lines, the calls among them, 250 to a lesson.
+head -n 6000 "$work/script" | grep -v -E '^(step|show|help|room.*|hello|spi G|in 0|vbus|#.*|)$' | split -l 250 - "$work/lesson_"
+for script in "$work"/lesson_*; do
+    check "random calls as a lesson" as_console calls "$script"
+    cat "$work/calls.results" >>"$work/all.results"
+done
+for result in reply ok silence ack nak stall data0 data1 'refused 5' 'refused 6 found' 'refused 8 found' 'refused 7'; do
+    check "random calls as a lesson: some $result" grep -q "^$result" "$work/all.results"
+done
+
+# damaged WORDS BYTES..: a file of these bytes, given to printf, is no lesson: nothing is played, and it is told why.
+damaged() {
+    words=$1
+    shift
+    printf "$@" >"$work/damaged"
+    refused "$words"
+}
+refused() {
+    ./max3420e replay "$work/damaged" >"$work/out" 2>"$work/err"
+    [ "$?" -eq 1 ] && silent "$work/out" && [ "$(cat "$work/err")" = "max3420e: $work/damaged is no lesson: refused 13 $1" ]
+}
+check "damaged: empty" damaged 'entry 0: the file has 0 bytes, a lesson at least 2' ''
+check "damaged: one byte" damaged 'entry 0: the file has 1 byte, a lesson at least 2' '\1'
+check "damaged: version" damaged "entry 0: the file's version is 2, not 1" '\2\0'
+check "damaged: the first entry is missing" damaged 'entry 0: it is missing: the file ends at byte 2, inside the table of 1 entry' '\1\1'
+first='\1\0\0\0\0\030\0\0\0\1\0'
+second='\2\1\0\0\0\031\0\0\0\1\0'
+printf '\1\2'"$first$second"'X\1' >"$work/two.lesson"
+check "a lesson of two entries" play two "$work/two.lesson"
+check "a lesson of two entries: what it says" [ "$(tail -n 1 "$work/two.out")" = "$work/two.lesson: 2 entries, 0 refused, 1 tick" ]
+check "damaged: the second entry is cut" damaged 'entry 1: it is missing: the file ends at byte 20, inside the table of 2 entries' \
+    '\1\2'"$first"'\2\1\0\0\0\031\0'
+check "damaged: kind" damaged 'entry 1: at byte 13 its kind is 7, not 1 or 2' '\1\2'"$first"'\7\1\0\0\0\031\0\0\0\1\0X\1'
+check "damaged: kind before a missing entry" damaged 'entry 0: at byte 2 its kind is 0, not 1 or 2' '\1\2\0\0\0\0\0\030\0\0\0\1\0'
+check "damaged: offset" damaged 'entry 1: at byte 13 its body is said to be at byte 26, it must be at byte 25' \
+    '\1\2'"$first"'\2\1\0\0\0\032\0\0\0\1\0X\1'
+check "damaged: an offset of 32 bits" damaged 'entry 0: at byte 2 its body is said to be at byte 4294967295, it must be at byte 24' \
+    '\1\2\1\0\0\0\0\377\377\377\377\1\0'"$second"'X\1'
+check "damaged: bytes after the last body" damaged 'entry 2: the last body ends at byte 26, the file at byte 27' '\1\2'"$first$second"'X\1Y'
+check "damaged: the last body is cut" damaged 'entry 2: the last body ends at byte 26, the file at byte 25' '\1\2'"$first$second"'X'
+check "damaged: bytes after no entries" damaged 'entry 0: a lesson of no entries ends at byte 2, the file at byte 3' '\1\0\0'
+{ printf '\1\1\1\0\0\0\0\015\0\0\0\363\377'; head -c 65523 /dev/zero; } >"$work/damaged"
+check "a lesson of 65,536 bytes" play large "$work/damaged"
+check "a lesson of 65,536 bytes: its entry is refused" [ "$(tr '\n' ';' <"$work/large.out")" \
+    = "0 tick 0 +0 refused 3 int=high;$work/damaged: 1 entry, 1 refused, 0 ticks;" ]
+printf '\0' >>"$work/damaged"
+check "damaged: 65,537 bytes" refused 'entry 0: the file has over 65536 bytes'
+cp "$work/noise" "$work/damaged"
+check "damaged: random bytes" refused 'entry 0: the file has over 65536 bytes'
+# Each byte of a lesson changed in turn: it is played, or it is refused; never both or neither.
+either() {
+    if ./max3420e replay "$1" >"$work/out" 2>"$work/err"; then
+        silent "$work/err" && tail -n 1 "$work/out" | grep -q -E ': 2 entries, [0-2] refused, [0-9]+ ticks?$'
+    else
+        silent "$work/out" && says 'is no lesson: refused 13 entry [0-9]*: '
+    fi
+}
+at=0
+while [ "$at" -lt 26 ]; do
+    { head -c "$at" "$work/two.lesson"; printf '\7'; tail -c +"$((at + 2))" "$work/two.lesson"; } >"$work/damaged"
+    check "a lesson whose byte $at is changed" either "$work/damaged"
+    at=$((at + 1))
+done
+
+# unrecorded WORDS SCRIPT: the script, given to printf, is not recorded: the words are told, and a file that is there stays as it is.
+unrecorded() {
+    printf "$2" >"$work/wrong"
+    unwritten "$1"
+}
+unwritten() {
+    rm -f "$work/new"
+    echo kept >"$work/old"
+    for file in new old; do
+        ./max3420e record "$work/wrong" "$work/$file" >"$work/out" 2>"$work/err"
+        [ "$?" -eq 1 ] && silent "$work/out" && [ "$(cat "$work/err")" = "max3420e: $work/wrong line $1" ] || return 1
+    done
+    [ ! -e "$work/new" ] && [ "$(cat "$work/old")" = kept ]
+}
+starts='a line of a lesson starts with spi, power, stable, vbus, pins, reset, suspend, activity, setup, out, in, event or tick'
+for word in step room show help hello; do
+    check "not recorded: $word" unrecorded "3: $starts, not '$word'" "power\n\n$word 1\n"
+done
+check "not recorded: a byte" unrecorded "1: a byte is one or two hex digits, not 'G1'" 'spi G1\n'
+check "not recorded: a line that goes on" unrecorded "2: the line should end here, not 'on'" 'stable\npower on'
+check "not recorded: a tick over 32 bits" unrecorded "2: a tick is a decimal number, 0 to 4294967295, not '4294967296'" \
+    'tick 4294967295\ntick 4294967296\n'
+check "not recorded: no tick" unrecorded "1: a tick is a decimal number, 0 to 4294967295, but the line ends" 'tick # 7\n'
+check "not recorded: a hex tick" unrecorded "1: a tick is a decimal number, 0 to 4294967295, not '1F'" 'tick 1F\n'
+check "not recorded: two ticks" unrecorded "1: the line should end here, not '8'" 'tick 7 8\n'
+{ echo power; printf 'power'; repeated 16380 ' '; echo; } >"$work/wrong"
+check "not recorded: a line of 16,385 bytes" unwritten "2: a line has at most 16384 bytes"
+repeated 255 'power
+' >"$work/wrong"
+check "255 entries" as_console most "$work/wrong"
+check "255 entries: what record says" [ "$(cat "$work/most.said")" = "$work/most.lesson: 255 entries, 3062 bytes" ]
+echo power >>"$work/wrong"
+check "not recorded: 256 entries" unwritten "256: a lesson has at most 255 entries"
+{ for i in 1 2 3 4 5 6 7 8 9 10 11 12 13; do printf 'spi'; repeated 5000 ' 0'; echo; done; printf 'spi'; repeated 380 ' 0'; } >"$work/wrong"
+check "65,536 bytes" as_console full "$work/wrong"
+check "65,536 bytes: what record says" [ "$(cat "$work/full.said")" = "$work/full.lesson: 14 entries, 65536 bytes" ]
+printf ' 0\n' >>"$work/wrong"
+check "not recorded: 65,537 bytes" unwritten "14: a lesson has at most 65536 bytes"
+printf '# nothing\n\n' >"$work/empty"
+check "an empty script" record empty "$work/empty"
+check "an empty script: two bytes" [ "$(od -An -tx1 "$work/empty.lesson") $(cat "$work/empty.said")" \
+    = " 01 00 $work/empty.lesson: 0 entries, 2 bytes" ]
+check "a lesson of no entries" play empty "$work/empty.lesson"
+check "a lesson of no entries: what it says" [ "$(cat "$work/empty.out")" = "$work/empty.lesson: 0 entries, 0 refused, 0 ticks" ]
+printf 'tick 4294967295\npower\nstable\ntick 4294967295\nstable\n' >"$work/wraps"
+check "ticks that wrap" as_console wraps "$work/wraps"
+check "ticks that wrap: the next is 0, and the whole turn is counted" [ "$(sed 's/ ok int=high//' "$work/wraps.out" | tr '\n' ';')" \
+    = "0 tick 4294967295 +0;1 tick 0 +1;2 tick 4294967295 +4294967295;$work/wraps.lesson: 3 entries, 0 refused, 4294967296 ticks;" ]
+
+# fails WORDS ARGUMENTS..: status 1, and the words.
+fails() {
+    words=$1
+    shift
+    ./max3420e "$@" >"$work/out" 2>"$work/err"
+    [ "$?" -eq 1 ] && silent "$work/out" && says "$words"
+}
+check "replay without a file" fails 'max3420e replay FILE' replay
+check "replay of two files" fails 'max3420e replay FILE' replay "$work/two.lesson" "$work/two.lesson"
+check "record without a file" fails 'max3420e record SCRIPT FILE' record examples/lessons/mistakes.txt
+check "record to two files" fails 'max3420e record SCRIPT FILE' record examples/lessons/mistakes.txt "$work/new" "$work/old"
+check "replay of a missing file" fails 'cannot open .*/missing: No such file' replay "$work/missing"
+check "replay of a directory" fails 'cannot read .*: Is a directory' replay "$work"
+check "record of a missing script" fails 'cannot open .*/missing: No such file' record "$work/missing" "$work/new"
+check "record of a directory" fails 'cannot read .*: Is a directory' record "$work" "$work/new"
+check "record: no file is made" [ ! -e "$work/new" ]
+check "record to a directory" fails 'cannot write .*: Is a directory' record examples/lessons/mistakes.txt "$work"
+check "record to a full device" fails 'cannot write /dev/full: No space left' record examples/lessons/mistakes.txt /dev/full
+./max3420e replay examples/lessons/mistakes.lesson >/dev/full 2>"$work/err"
+check "replay to a full device: status 1" [ "$?" -eq 1 ]
+check "replay to a full device: and the message" says "standard output: No space left"
+for word in replay record; do
+    cp examples/bench.txt "$work/$word"
+    check "a file called $word" [ "$(cd "$work" && "$OLDPWD/$program" "./$word")" = "$(cat examples/bench.out)" ]
+done
+printf '%s\n' examples/lessons/*.lesson | xargs -P 2 -n 1 ./max3420e replay >"$work/all.out" 2>"$work/err"
+check "many lessons at once: status 0" [ "$?" -eq 0 ]
+check "many lessons at once: a summary for each" \
+    [ "$(grep -c '\.lesson: [0-9]* entries, [0-9]* refused, [0-9]* ticks$' "$work/all.out")" -eq 3 ]
+printf '\2\0' >"$work/damaged"
+printf '%s\n' examples/lessons/*.lesson "$work/damaged" | xargs -P 2 -n 1 ./max3420e replay >"$work/all.out" 2>"$work/err"
+check "many lessons, one of them damaged: not status 0" [ "$?" -ne 0 ]
+check "many lessons, one of them damaged: the file is named" says "^max3420e: $work/damaged is no lesson: "
+check "many lessons, one of them damaged: the others are played" [ "$(grep -c '\.lesson: ' "$work/all.out")" -eq 3 ]
 
 check "./max3420e: status 0" [ "$(./max3420e examples/bench.txt 2>&1)" = "$(cat examples/bench.out)" ]
 check "./max3420e classroom: status 0" [ "$(./max3420e classroom examples/classroom.txt 2>&1)" = "$(cat examples/classroom.out)" ]

@@ -86,6 +86,34 @@ fn finish(pin: Pin, page: &mut [u8], output: Output) -> Output
     output::put(b"\n", page, levelled)
 }
 
+// The result of a transfer and the pin, after what the caller has put.
+pub fn end_transfer(
+    reply: TransferReply,
+    pin: Pin,
+    bytes: &[u8],
+    page: &mut [u8],
+    output: Output,
+) -> Output
+    ensures { λ r. ⌜ r .filled ≤ length (now (page .entry)) ⌝ }
+{
+    let said = put_transfer(reply, bytes, page, output);
+    finish(pin, page, said)
+}
+
+// The same of an event.
+pub fn end_event(
+    reply: EventReply,
+    pin: Pin,
+    bytes: &[u8],
+    page: &mut [u8],
+    output: Output,
+) -> Output
+    ensures { λ r. ⌜ r .filled ≤ length (now (page .entry)) ⌝ }
+{
+    let said = put_event(reply, bytes, page, output);
+    finish(pin, page, said)
+}
+
 pub fn answer_transfer(
     line: u64,
     reply: TransferReply,
@@ -97,8 +125,7 @@ pub fn answer_transfer(
     ensures { λ r. ⌜ r .filled ≤ length (now (page .entry)) ⌝ }
 {
     let begun = begin(line, page, output);
-    let said = put_transfer(reply, bytes, page, begun);
-    finish(pin, page, said)
+    end_transfer(reply, pin, bytes, page, begun)
 }
 
 pub fn answer_event(
@@ -112,8 +139,7 @@ pub fn answer_event(
     ensures { λ r. ⌜ r .filled ≤ length (now (page .entry)) ⌝ }
 {
     let begun = begin(line, page, output);
-    let said = put_event(reply, bytes, page, begun);
-    finish(pin, page, said)
+    end_event(reply, pin, bytes, page, begun)
 }
 
 pub fn answer_step(

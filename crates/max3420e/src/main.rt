@@ -1,12 +1,21 @@
-// The console, or the console of a classroom, on a file that is named or on standard input: `max3420e [FILE]`,
-// `max3420e classroom [FILE]`.
+// The console, or the console of a classroom, on a file that is named or on standard input; or a lesson that is played or recorded:
+// `max3420e [FILE]`, `max3420e classroom [FILE]`, `max3420e replay FILE`, `max3420e record SCRIPT FILE`.
 use console::Console;
 use roster::Roster;
 use session::Session;
 
-const USAGE: [u8; 114] =
+// What the first argument asks for.
+enum Asked {
+    Console,
+    Classroom,
+    Replay,
+    Record,
+}
+
+const USAGE: [u8; 218] =
     *b"max3420e: one file at most: max3420e [FILE], or max3420e classroom [FILE]; \
-    a file called classroom is ./classroom\n";
+    a lesson: max3420e replay FILE, or max3420e record SCRIPT FILE; \
+    a file called classroom, replay or record is ./classroom, ./replay or ./record\n";
 
 // What stands on the page before the first line, where a person types.
 fn greet(session: Session, taught: bool, page: &mut [u8]) -> Session {
@@ -75,52 +84,108 @@ fn run(fd: i32, path: &[u8], taught: bool, typed: bool) {
     }
 }
 
+fn tell_usage() {
+    io::write_all(libc::STDERR_FILENO, &USAGE);
+}
+
+fn tell_name() {
+    os::fail(b"max3420e: the file's name");
+}
+
 // Runs on the file that an argument names.
 fn run_file(argument: usize, taught: bool) {
     let mut path = io::buffer();
     let length = os::arg(argument, &mut path);
     if os::errno() != 0 {
-        os::fail(b"max3420e: the file's name");
+        tell_name();
         return;
     }
-    let fd = os::open_read(&path[..length]);
+    let fd = files::open(&path[..length]);
     if fd < 0 {
-        io::write_all(libc::STDERR_FILENO, b"max3420e: cannot open ");
-        os::fail(&path[..length]);
         return;
     }
     run(fd, &path[..length], taught, false);
     libc::close(fd);
 }
 
-// Whether the first argument asks for a classroom.
-fn is_taught() -> bool {
-    let mut word = io::buffer();
-    let length = os::arg(1, &mut word);
-    words::is_name(&word[..length], b"classroom")
-}
-
-// Where the file's name stands among the arguments, if there is one.
-fn file_place(taught: bool) -> usize {
-    if taught { 2 } else { 1 }
-}
-
-fn main() {
+// The console on a file or, with no argument at that place, on standard input.
+fn run_console(place: usize, taught: bool) {
     let count = os::arg_count();
-    let taught = is_taught();
-    let place = file_place(taught);
-    if place < count {
-        if place + 1 < count {
-            io::write_all(libc::STDERR_FILENO, &USAGE);
-            return;
-        }
+    if count <= place {
+        run(
+            libc::STDIN_FILENO,
+            b"standard input",
+            taught,
+            libc::isatty(libc::STDIN_FILENO) == 1,
+        );
+        return;
+    }
+    if count - place == 1 {
         run_file(place, taught);
         return;
     }
-    run(
-        libc::STDIN_FILENO,
-        b"standard input",
-        taught,
-        libc::isatty(libc::STDIN_FILENO) == 1,
-    );
+    tell_usage();
+}
+
+fn replay() {
+    let mut path = io::buffer();
+    if os::arg_count() != 3 {
+        tell_usage();
+        return;
+    }
+    let length = os::arg(2, &mut path);
+    if os::errno() != 0 {
+        tell_name();
+        return;
+    }
+    lesson_files::replay(&path[..length]);
+}
+
+// The script that the second argument names is recorded in the file that the third does.
+fn record_script(script: &[u8]) {
+    let mut path = io::buffer();
+    let length = os::arg(3, &mut path);
+    if os::errno() != 0 {
+        tell_name();
+        return;
+    }
+    lesson_files::record(script, &path[..length]);
+}
+
+fn record() {
+    let mut script = io::buffer();
+    if os::arg_count() != 4 {
+        tell_usage();
+        return;
+    }
+    let length = os::arg(2, &mut script);
+    if os::errno() != 0 {
+        tell_name();
+        return;
+    }
+    record_script(&script[..length]);
+}
+
+fn read_asked() -> Asked {
+    let mut word = io::buffer();
+    let length = os::arg(1, &mut word);
+    if words::is_name(&word[..length], b"classroom") {
+        return Asked::Classroom;
+    }
+    if words::is_name(&word[..length], b"replay") {
+        return Asked::Replay;
+    }
+    if words::is_name(&word[..length], b"record") {
+        return Asked::Record;
+    }
+    Asked::Console
+}
+
+fn main() {
+    match read_asked() {
+        Asked::Console => run_console(1, false),
+        Asked::Classroom => run_console(2, true),
+        Asked::Replay => replay(),
+        Asked::Record => record(),
+    }
 }

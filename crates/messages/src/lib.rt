@@ -100,6 +100,18 @@ fn put_orders(page: &mut [u8], output: Output) -> Output
     )
 }
 
+// The same in the script of a lesson, which has calls of the chip only.
+fn put_entries(page: &mut [u8], output: Output) -> Output
+    ensures { λ r. ⌜ r .filled ≤ length (now (page .entry)) ⌝ }
+{
+    let next = output::put(
+        b"a line of a lesson starts with spi, power, stable, vbus, pins, reset, suspend, activity, ",
+        page,
+        output,
+    );
+    output::put(b"setup, out, in, event or tick", page, next)
+}
+
 fn put_expected(expected: Expected, page: &mut [u8], output: Output) -> Output
     ensures { λ r. ⌜ r .filled ≤ length (now (page .entry)) ⌝ }
 {
@@ -118,6 +130,8 @@ fn put_expected(expected: Expected, page: &mut [u8], output: Output) -> Output
         Expected::Order => put_orders(page, output),
         Expected::Desk => output::put(b"a desk is a decimal number", page, output),
         Expected::Key => output::put(b"a key is one to eight hex digits", page, output),
+        Expected::Entry => put_entries(page, output),
+        Expected::Tick => output::put(b"a tick is a decimal number, 0 to 4294967295", page, output),
     }
 }
 
@@ -148,14 +162,13 @@ fn put_word(word: &[u8], page: &mut [u8], output: Output) -> Output
 }
 
 // What was expected, and the word that stands there.
-pub fn put_fault(fault: Fault, line: &[u8], page: &mut [u8], output: Output) -> Output
+pub fn put_reason(fault: Fault, line: &[u8], page: &mut [u8], output: Output) -> Output
     ensures { λ r. ⌜ r .filled ≤ length (now (page .entry)) ⌝ }
 {
     let expected = fault.expected;
     let start = fault.start;
     let end = fault.end;
-    let lead = output::put(b"error: ", page, output);
-    let next = put_expected(expected, page, lead);
+    let next = put_expected(expected, page, output);
     if end <= start {
         return output::put(b", but the line ends", page, next);
     }
@@ -163,4 +176,12 @@ pub fn put_fault(fault: Fault, line: &[u8], page: &mut [u8], output: Output) -> 
         return next;
     }
     put_word(&line[start..end], page, next)
+}
+
+// The same as an answer.
+pub fn put_fault(fault: Fault, line: &[u8], page: &mut [u8], output: Output) -> Output
+    ensures { λ r. ⌜ r .filled ≤ length (now (page .entry)) ⌝ }
+{
+    let lead = output::put(b"error: ", page, output);
+    put_reason(fault, line, page, lead)
 }

@@ -1,5 +1,5 @@
 // Text goes to a lent page, and from there to standard output when the page is full or at a flush. Nothing is lost and no
-// call has a precondition; a write that fails is remembered.
+// call has a precondition; a write that fails is remembered. What a program tells of itself goes to standard error by `tell`.
 ghost use mathlib.Core.Path.{_≡_};
 ghost use Prim.Native.Nat.{_≤_};
 ghost use lib.ListN.{length};
@@ -11,8 +11,8 @@ pub struct Output {
     pub failed: bool,
 }
 
-// Writes what stands on the page.
-pub fn flush(page: &[u8], output: Output) -> Output
+// Writes what stands on the page to a file that is open.
+fn write_page(fd: i32, page: &[u8], output: Output) -> Output
     ensures { λ r. ⌜ r .filled ≡ 0 ⌝ }
 {
     let mut next = output;
@@ -24,8 +24,22 @@ pub fn flush(page: &[u8], output: Output) -> Output
     if page.len() < filled {
         return next;
     }
-    next.failed = !io::write_all(libc::STDOUT_FILENO, &page[..filled]);
+    next.failed = !io::write_all(fd, &page[..filled]);
     next
+}
+
+// Writes what stands on the page.
+pub fn flush(page: &[u8], output: Output) -> Output
+    ensures { λ r. ⌜ r .filled ≡ 0 ⌝ }
+{
+    write_page(libc::STDOUT_FILENO, page, output)
+}
+
+// The same to standard error.
+pub fn tell(page: &[u8], output: Output) -> Output
+    ensures { λ r. ⌜ r .filled ≡ 0 ⌝ }
+{
+    write_page(libc::STDERR_FILENO, page, output)
 }
 
 // Puts text of the page's length at most where the page has been filled to.
@@ -79,6 +93,25 @@ pub fn put_decimal(number: u64, page: &mut [u8], output: Output) -> Output
     let mut digits = [0u8; 20];
     let count = io::decimal(number, &mut digits);
     put(&digits[..count], page, output)
+}
+
+// Text, and a number after it.
+pub fn put_number(text: &[u8], number: u64, page: &mut [u8], output: Output) -> Output
+    ensures { λ r. ⌜ r .filled ≤ length (now (page .entry)) ⌝ }
+{
+    let next = put(text, page, output);
+    put_decimal(number, page, next)
+}
+
+// A number, and what there are so many of: one word for one, another for none or more.
+pub fn put_count(number: u64, one: &[u8], more: &[u8], page: &mut [u8], output: Output) -> Output
+    ensures { λ r. ⌜ r .filled ≤ length (now (page .entry)) ⌝ }
+{
+    let next = put_decimal(number, page, output);
+    if number == 1 {
+        return put(one, page, next);
+    }
+    put(more, page, next)
 }
 
 // A byte as two upper-case hex digits.

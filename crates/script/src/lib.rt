@@ -61,6 +61,9 @@ pub enum Expected {
     Order,
     Desk,
     Key,
+    // In the script of a lesson: the line's start, a tick.
+    Entry,
+    Tick,
 }
 
 // The bytes at a line's end.

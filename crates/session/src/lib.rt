@@ -20,6 +20,10 @@ pub struct Session {
     // The line's number, and its length without its end: 0 where none is to be taken, since a blank line asks for nothing.
     pub number: u64,
     pub length: usize,
+    // The line was too long to be taken, which is told on the page.
+    pub long: bool,
+    // A read failed, which is told on standard error.
+    pub broken: bool,
     // The input has ended. Nothing follows: then, or after a write that failed.
     pub ended: bool,
     pub over: bool,
@@ -38,6 +42,8 @@ impl Session {
             whole: false,
             number: 0,
             length: 0,
+            long: false,
+            broken: false,
             ended: false,
             over: false,
             output: Output {
@@ -106,6 +112,7 @@ fn read_chunk(session: Session, path: &[u8], chunk: &mut [u8]) -> Session
         os::fail(path);
     }
     let mut next = session;
+    next.broken = got < 0;
     next.start = 0;
     next.end = io::count(got, chunk);
     if got <= 0 {
@@ -122,6 +129,7 @@ fn end_line(session: Session, line: &[u8], page: &mut [u8]) -> Session
 {
     let mut next = session;
     next.length = 0;
+    next.long = false;
     if !session.whole {
         return next;
     }
@@ -132,6 +140,7 @@ fn end_line(session: Session, line: &[u8], page: &mut [u8]) -> Session
         let begun = output::put_decimal(next.number, page, session.output);
         let told = output::put(b" error: a line has at most 16384 bytes\n", page, begun);
         next.output = told;
+        next.long = true;
         return next;
     }
     next.length = length;

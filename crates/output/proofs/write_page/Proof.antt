@@ -1,9 +1,9 @@
--- `output::flush` meets its contract: what is written lies within the page.
+-- `output::write_page` meets its contract: what is written lies within the page.
 use mathlib.Core.Path.{sym}
 use lib.Seq.{length-take-le}
 use borrow.Author.Needs.{needs}
-use Rattle.output.proofs.flush.Statement.{statement}
-use Rattle.output.proofs.flush.Tie as tie
+use Rattle.output.proofs.write_page.Statement.{statement}
+use Rattle.output.proofs.write_page.Tie as tie
 
 returns : tie.Need-returns
 returns c = search needs
@@ -20,6 +20,6 @@ write-all-requires c κs = search needs
 returns-3 : tie.Need-returns-3
 returns-3 c = search needs
 
-pub flush-spec : {M : Type 1} → statement M
-flush-spec =
+pub write-page-spec : {M : Type 1} → statement M
+write-page-spec =
     tie.close (tie.spec returns returns-2 slice-aggregate-write-all write-all-requires returns-3)
