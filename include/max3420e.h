@@ -44,7 +44,7 @@ enum max3420e_refusal {
     MAX3420E_UNSOUND = 1,       /* a record is not sound; a flag that is neither 0 nor 1 makes it so; at a desk, one of its own */
     MAX3420E_NO_COMMAND = 2,    /* a transfer has no command byte */
     MAX3420E_LONG_TRANSFER = 3, /* a transfer has over 4,096 bytes */
-    MAX3420E_SHORT_BUFFER = 4,  /* room is under the transfer's length, or under 64 for an IN or a board step */
+    MAX3420E_SHORT_BUFFER = 4,  /* room is under the transfer's length, under 64 for an IN or a board step, or under what a call on lessons writes */
     MAX3420E_UNKNOWN_EVENT = 5, /* an event code is not one of those below */
     MAX3420E_OUT_PAYLOAD = 6,   /* an OUT payload is over 64 bytes; `found` is its length */
     MAX3420E_SETUP_PAYLOAD = 8, /* a SETUP payload is not 8 bytes; `found` is its length */

@@ -1,5 +1,5 @@
 -- A lesson that is being recorded keeps within what a lesson may have (document 02, Ask 5).
-use Prim.Native.Nat.{ℕ, _+_, _*_, _≤_}
+use Prim.Native.Nat.{_+_, _*_, _≤_}
 use Rattle.recorder.specs.declared.Recording.{Recording}
 
 -- at most 255 entries, and a file of at most 64 KiB

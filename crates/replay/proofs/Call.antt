@@ -1,10 +1,10 @@
 -- The ways of the public call: no lesson, too little room, played.
-use mathlib.Core.Path.{_≡_, refl, sym, ap, _∙_}
-use mathlib.Core.Bool.{Bool, true, false}
-use mathlib.Core.List.{List, [], _∷_}
+use mathlib.Core.Path.{_≡_, refl, ap, _∙_}
+use mathlib.Core.Bool.{true, false}
+use mathlib.Core.List.{List}
 use Prim.Native.Nat.{ℕ, _≤_}
 use native.Mathlib.Omega.{arith}
-use lib.Dec.{leb, ltb}
+use lib.Dec.{leb}
 use lib.ListN.{length}
 use borrow.Author.Tests.{leb-true, leb-false, lt-ltb, le-ltb}
 use Rattle.refusal.specs.declared.Refusal.{Refusal}
@@ -14,7 +14,6 @@ use Rattle.refusal.specs.declared.Checked.the-variants.{Accepted, Refused}
 use Rattle.chip.specs.declared.Chip.{Chip}
 use Rattle.chip.specs.Record.{powerOnChip}
 use Rattle.model.specs.Reply.{lent}
-use Rattle.lesson.specs.Lesson.{LessonEntry}
 use Rattle.lesson.specs.Read.{Reading, noLesson, lesson, lessonOf, entriesOf, readingChecked}
 use Rattle.lesson.proofs.Count.{accepted-lesson}
 use Rattle.replay.specs.declared.ReplayReply.the-variants as reply

@@ -1,6 +1,6 @@
 -- Entry i of a lesson's file: where it is, its call, and the turn of the loop that makes it.
-use mathlib.Core.Path.{_≡_, refl, sym, ap, ap₂, subst, _∙_}
-use mathlib.Core.Bool.{Bool, cond}
+use mathlib.Core.Path.{_≡_, sym, ap, ap₂, subst, _∙_}
+use mathlib.Core.Bool.{cond}
 use mathlib.Core.List.{List, []}
 use Prim.Native.Nat.{ℕ, _+_, _≤_, _<_}
 use native.Mathlib.Omega.{arith}
@@ -9,15 +9,14 @@ use lib.ListN.{length, getD, take}
 use lib.Seq.{sets}
 use Rattle.refusal.specs.declared.Checked.the-variants.{Accepted}
 use Rattle.chip.specs.declared.Chip.{Chip}
-use Rattle.model.specs.Call.{Call, Answer, callTo, answerOf, bufferAfter}
+use Rattle.model.specs.Call.{Call, callTo, answerOf, bufferAfter}
 use Rattle.rules.specs.Event.{max3420e}
-use Rattle.bus.specs.EventCall.{answerPid}
 use Rattle.flat.specs.declared.FlatAnswer.{FlatAnswer}
 use Rattle.lesson.specs.Lesson.{LessonEntry}
 use Rattle.lesson.specs.Read.{lessonOf, entriesOf, readingChecked, entryAt, Located}
 use Rattle.lesson.proofs.Count.{entry-count, accepted-lesson}
 use Rattle.lesson.proofs.Locate.{entry-is}
-use Rattle.replay.specs.Results.{callWith, callOf, answerRefusal, answerBytes, resultWith, resultOf, flatAnswer}
+use Rattle.replay.specs.Results.{callWith, callOf, answerBytes, resultWith, resultOf, flatAnswer}
 use Rattle.replay.proofs.Numbers.{call-numbered, call-chip, buffer-bytes, entry-within}
 use Rattle.replay.proofs.Turn.{Turn, turn}
 

@@ -1,6 +1,6 @@
 -- How many bytes a lesson is answered with at the most.
-use mathlib.Core.Path.{_≡_, refl, sym, ap, _∙_}
-use mathlib.Core.List.{List, [], _∷_, _++_}
+use mathlib.Core.Path.{_≡_}
+use mathlib.Core.List.{List, [], _∷_}
 use Prim.Native.Nat.{ℕ, _+_, _*_, _≤_}
 use native.Mathlib.Omega.{arith}
 use lib.ListN.{length, length-append}
@@ -12,7 +12,7 @@ use Rattle.rules.specs.Event.{max3420e}
 use Rattle.lesson.specs.Lesson.{LessonEntry, bodies}
 use Rattle.lesson.specs.Read.{lessonOf, entriesOf, readingChecked}
 use Rattle.lesson.proofs.Count.{accepted-lesson, bodies-most}
-use Rattle.replay.specs.Results.{callOf, answerBytes, resultOf, results}
+use Rattle.replay.specs.Results.{callOf, resultOf, results}
 use Rattle.replay.specs.Replay.{playedBytes}
 use Rattle.replay.proofs.Numbers.{entry-most}
 use Rattle.replay.proofs.Turn.{leftBytes}

@@ -1,15 +1,14 @@
 -- A call's answer in numbers is the model's answer in numbers; and how many bytes it has.
-use mathlib.Core.Path.{_≡_, refl, sym, ap, _∙_}
-use mathlib.Core.Bool.{Bool, true, false, cond}
-use mathlib.Core.List.{List, [], _++_}
+use mathlib.Core.Path.{_≡_, refl, ap, _∙_}
+use mathlib.Core.Bool.{true, false}
+use mathlib.Core.List.{List}
 use Prim.Native.Nat.{ℕ, _+_, _≤_}
 use native.Mathlib.Omega.{arith}
-use lib.Dec.{eqb, ltb}
+use lib.Dec.{eqb}
 use lib.ListN.{length, take, drop}
 use lib.Seq.{take-append-seam}
 use borrow.Author.Tests.{ltb-false}
 use Rattle.bits.proofs.Cases.{cond-elim}
-use Rattle.refusal.specs.declared.Refusal.{Refusal}
 use Rattle.refusal.specs.declared.Checked.{Checked}
 use Rattle.refusal.specs.declared.Checked.the-variants.{Accepted, Refused}
 use Rattle.refusal.specs.Check.{check, checkedNumber}
@@ -18,14 +17,14 @@ use Rattle.chip.specs.declared.Chip.{Chip}
 use Rattle.chip.specs.Sound.{soundChip}
 use Rattle.model.specs.declared.Event.{Event}
 use Rattle.model.specs.Reply.{Reply, transferred, done, silence, ack, nak, stall, sent, replyBytes, lent}
-use Rattle.model.specs.Call.{Call, transfer, event, Answer, refused, answered, bufferAfter, transferGrounds, eventGrounds}
+use Rattle.model.specs.Call.{Call, transfer, event, Answer, refused, answered, bufferAfter, transferGrounds}
 use Rattle.model.specs.Call.{checked, checkedAnswer, callTo, answerOf}
 use Rattle.model.proofs.Runs.{transfer-length}
 use Rattle.rules.specs.Spi.{max3420eSpi}
 use Rattle.rules.specs.Event.{max3420e}
 use Rattle.spi.specs.Transfer.{transferReplyOf, transferRefusal, transferCount}
 use Rattle.event_answer.specs.Answer.{eventReply}
-use Rattle.bus.specs.EventCall.{eventOutcome, eventReplyOf, eventTells, eventRefusal, eventPid, eventCount, answerPid}
+use Rattle.bus.specs.EventCall.{eventOutcome, eventReplyOf, eventCount, answerPid}
 use Rattle.bus.proofs.Accepted.{accepted-sound}
 use Rattle.bus.proofs.Call.{refusal-of, pid-of}
 use Rattle.bus.proofs.Replies.{Packet, event-packet}

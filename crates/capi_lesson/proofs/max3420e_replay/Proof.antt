@@ -1,7 +1,6 @@
 -- `max3420e_replay` meets its promise: the inner answer in numbers.
-use mathlib.Core.Path.{sym, ap, _∙_}
+use mathlib.Core.Path.{ap}
 use borrow.Author.Needs.{needs}
-use Rattle.refusal.specs.Check.{checkedNumber, checkedFound}
 use Rattle.capi_lesson.specs.Answer.{flatReplay}
 use Rattle.capi_lesson.proofs.Numbers.{count-told}
 use Rattle.capi_lesson.proofs.max3420e_replay.Statement.{statement}

@@ -1,7 +1,6 @@
 -- `entry_count` meets its promise: byte 1 of a lesson's file.
 use mathlib.Core.Path.{sym}
 use native.Mathlib.Omega.{arith}
-use lib.ListN.{length}
 use Rattle.lesson.specs.Read.{lessonOf, entriesOf}
 use Rattle.lesson.proofs.Count.{entry-count, headed-long, accepted-lesson}
 use Rattle.lesson.proofs.entry_count.Statement.{statement}

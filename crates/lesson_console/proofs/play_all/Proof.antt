@@ -1,12 +1,11 @@
 -- `lesson_console::play_all` is safe and ends: every entry of a lesson is located in its file.
 use mathlib.Core.Path.{_≡_}
 use mathlib.Core.List.{List, []}
-use Prim.Native.Nat.{ℕ, _≤_, _<_, _-_}
+use Prim.Native.Nat.{ℕ, _<_, _-_}
 use native.Mathlib.Omega.{arith}
 use borrow.Author.Needs.{needs}
 use lib.ListN.{length, getD}
 use Rattle.refusal.specs.declared.Checked.the-variants.{Accepted}
-use Rattle.lesson.specs.Lesson.{LessonEntry}
 use Rattle.lesson.specs.Read.{lessonOf, readingChecked, entriesOf, Located}
 use Rattle.lesson.proofs.Count.{accepted-lesson}
 use Rattle.lesson.proofs.Locate.{entry-is}

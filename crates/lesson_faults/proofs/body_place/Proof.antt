@@ -1,15 +1,14 @@
 -- `lesson_faults::body_place` meets its contract. Invariant: the offset so far is that of row i.
 use mathlib.Core.Path.{_≡_, refl, sym, ap, _∙_}
 use mathlib.Core.List.{List}
-use Prim.Native.Nat.{ℕ, suc, _+_, _*_, _-_, _≤_}
+use Prim.Native.Nat.{ℕ, _+_, _*_, _-_, _≤_}
 use native.Mathlib.Numerals.{add-one}
-use native.Mathlib.Omega.{arith}
 use borrow.Author.Needs.{needs}
-use lib.ListN.{length, getD, drop}
+use lib.ListN.{getD, drop}
 use lib.Seq.{drop-drop}
 use Rattle.little_endian.specs.Number.{fromLittleEndian}
 use Rattle.lesson.specs.Lesson.{tableEnd}
-use Rattle.lesson.specs.Read.{offsetAt, rowLength, rowAt}
+use Rattle.lesson.specs.Read.{offsetAt}
 use Rattle.lesson_faults.proofs.body_place.Statement.{statement}
 use Rattle.lesson_faults.proofs.body_place.Tie as tie
 

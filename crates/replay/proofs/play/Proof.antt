@@ -1,6 +1,5 @@
 -- `play` meets its promise: the call of the entry's kind, and its answer in numbers.
-use mathlib.Core.Path.{_≡_, refl, ap, _∙_}
-use lib.ListN.{length}
+use mathlib.Core.Path.{ap, _∙_}
 use borrow.Author.Needs.{needs}
 use borrow.Author.Tests.{eq-eqb, ne-eqb}
 use Rattle.flat.specs.Answer.{flatTransfer, flatEvent}

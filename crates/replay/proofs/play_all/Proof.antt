@@ -1,5 +1,5 @@
 -- `play_all` meets its promise: entry by entry (`turned`), from `start` to the last. Between two entries the scratch buffer keeps its size.
-use mathlib.Core.Path.{_≡_, refl, sym, subst, _∙_}
+use mathlib.Core.Path.{_≡_, refl, sym, subst}
 use Prim.Native.Nat.{ℕ, _-_, _<_, _≤_}
 use native.Mathlib.Omega.{arith}
 use lib.ListN.{length, length-take}

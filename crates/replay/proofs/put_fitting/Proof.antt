@@ -1,5 +1,4 @@
 -- `put_fitting` meets its promise: where it fits, the result is put.
-use native.Mathlib.Omega.{arith}
 use borrow.Author.Needs.{needs}
 use borrow.Author.Tests.{le-leb, lt-leb}
 use Rattle.replay.proofs.put_fitting.Statement.{statement}

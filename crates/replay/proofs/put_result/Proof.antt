@@ -1,9 +1,9 @@
 -- `put_result` meets its promise: refusal, PID, count, bytes.
-use mathlib.Core.Path.{_≡_, _∙_}
+use mathlib.Core.Path.{_∙_}
 use Prim.Native.Nat.{_+_}
 use native.Mathlib.Omega.{arith}
 use borrow.Author.Needs.{needs}
-use lib.ListN.{length, set, length-set}
+use lib.ListN.{set, length-set}
 use Rattle.replay.proofs.Put.{put-result}
 use Rattle.replay.proofs.put_result.Statement.{statement}
 use Rattle.replay.proofs.put_result.Tie as tie
