@@ -348,8 +348,8 @@ max3420e_lesson_answer max3420e_write_lesson(const uint8_t *kinds, size_t kind_c
  * those that a transfer gets back or an IN's packet. A refused call has PID 0 and count 0 and leaves the chip as it was;
  * the next one is made all the same. `count` is how many bytes all this is, and just those are written.
  * Refusal 13 as the check's. Else 4: they do not all fit in `room`. Refused, no byte at all is written, and `chip` is the
- * record at power-on. 68 bytes for each entry and as many as the file has are always room enough (82,876 for any lesson),
- * and then each call is made only once; with less room all calls are first made to measure, and again if it fits. */
+ * record at power-on. 68 bytes for each entry and as many as the file has are always room enough (82,876 for any lesson);
+ * with less room what the calls are answered is kept on the stack, in 82,876 bytes, until it is known to fit. */
 max3420e_replay_answer max3420e_replay(const uint8_t *file, size_t length, uint8_t *output, size_t room);
 
 /* The ticks from one entry to a later one: `to` less `from` modulo 2 to the 32, so that the count may wrap between them.

@@ -33,13 +33,14 @@ entry-count f l h =
     let t = taken (isHeaded f) (readFrom (getD f 1 0) 0 (tableEnd (getD f 1 0)) f (drop 2 f)) 0 l h in
     count-from (getD f 1 0) 0 (tableEnd (getD f 1 0)) f (drop 2 f) l (t .1)
 
--- such a file has its first two bytes
-pub headed-long : (f : List ℕ) (l : List LessonEntry) → lessonOf f ≡ lesson l → 2 ≤ length f
+-- such a file has its first two bytes, and 64 KiB at the most
+pub headed-size : (f : List ℕ) (l : List LessonEntry) → lessonOf f ≡ lesson l → (2 ≤ length f) × (length f ≤ 65536)
 unfolding lessonOf
-headed-long f l h =
+headed-size f l h =
     let t = taken (isHeaded f) (readFrom (getD f 1 0) 0 (tableEnd (getD f 1 0)) f (drop 2 f)) 0 l h in
     let p = and-true (leb 2 (length f) && leb (length f) 65536) (eqb (getD f 0 0) 1) (t .0) in
-    leb-true 2 (length f) (and-true (leb 2 (length f)) (leb (length f) 65536) (p .0) .0)
+    let q = and-true (leb 2 (length f)) (leb (length f) 65536) (p .0) in
+    (leb-true 2 (length f) (q .0), leb-true (length f) 65536 (q .1))
 
 -- a reading that is accepted is that of its entries
 accepted-reading : (r : Reading) → readingChecked r ≡ Accepted → r ≡ lesson (entriesOf r)

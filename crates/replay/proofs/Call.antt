@@ -1,12 +1,9 @@
 -- The ways of the public call: no lesson, too little room, played.
 use mathlib.Core.Path.{_≡_, refl, ap, _∙_}
-use mathlib.Core.Bool.{true, false}
 use mathlib.Core.List.{List}
-use Prim.Native.Nat.{ℕ, _≤_}
-use native.Mathlib.Omega.{arith}
-use lib.Dec.{leb}
+use Prim.Native.Nat.{ℕ, _≤_, _<_}
 use lib.ListN.{length}
-use borrow.Author.Tests.{leb-true, leb-false, lt-ltb, le-ltb}
+use borrow.Author.Tests.{lt-ltb, le-ltb}
 use Rattle.refusal.specs.declared.Refusal.{Refusal}
 use Rattle.refusal.specs.declared.Refusal.the-variants.{ShortBuffer}
 use Rattle.refusal.specs.declared.Checked.{Checked}
@@ -27,13 +24,11 @@ refused-plays (noLesson i) room r h = h
 refused-plays (lesson l) room r h = cc
 
 module _ (f : List ℕ) (room : ℕ) (ok : readingChecked (lessonOf f) ≡ Accepted) where
-  pub short-checked : leb (length (playedBytes (entriesOf (lessonOf f)))) room ≡ false → replayChecked f room ≡ Refused ShortBuffer
-  short-checked h =
-      ap (λ (x : Reading). readingPlays x room) (accepted-lesson f ok) ∙ rw (lt-ltb room _ (leb-false _ room h))
+  pub short-checked : room < length (playedBytes (entriesOf (lessonOf f))) → replayChecked f room ≡ Refused ShortBuffer
+  short-checked h = ap (λ (x : Reading). readingPlays x room) (accepted-lesson f ok) ∙ rw (lt-ltb room _ h)
 
-  pub fit-checked : leb (length (playedBytes (entriesOf (lessonOf f)))) room ≡ true → replayChecked f room ≡ Accepted
-  fit-checked h =
-      ap (λ (x : Reading). readingPlays x room) (accepted-lesson f ok) ∙ rw (le-ltb room _ (leb-true _ room h))
+  pub fit-checked : length (playedBytes (entriesOf (lessonOf f))) ≤ room → replayChecked f room ≡ Accepted
+  fit-checked h = ap (λ (x : Reading). readingPlays x room) (accepted-lesson f ok) ∙ rw (le-ltb room _ h)
 
 -- ---- the answers
 
@@ -47,9 +42,7 @@ module _ (f out : List ℕ) where
   no-lesson r h = refused-answer r (refused-plays (lessonOf f) (length out) r h)
 
   pub played-answer : (c : Chip) (n : ℕ) (after : List ℕ) → readingChecked (lessonOf f) ≡ Accepted
-      → leb (length (playedBytes (entriesOf (lessonOf f)))) (length out) ≡ true → c ≡ playedTo (entriesOf (lessonOf f))
-      → n ≡ length (playedBytes (entriesOf (lessonOf f))) → (n ≤ length out → after ≡ lent (playedBytes (entriesOf (lessonOf f))) out)
+      → length (playedBytes (entriesOf (lessonOf f))) ≤ length out → c ≡ playedTo (entriesOf (lessonOf f))
+      → n ≡ length (playedBytes (entriesOf (lessonOf f))) → after ≡ lent (playedBytes (entriesOf (lessonOf f))) out
       → (replayAnswerWith c (reply.Played n) ≡ replayAnswer f (length out)) × (after ≡ replayBuffer f out)
-  played-answer c n after ok fit chip size bytes =
-      let most = leb-true (length (playedBytes (entriesOf (lessonOf f)))) (length out) fit in
-      rw (fit-checked f (length out) ok fit, chip, size) (refl, bytes (omega (arith, size, most)))
+  played-answer c n after ok fit chip size bytes = rw (fit-checked f (length out) ok fit, chip, size) (refl, bytes)

@@ -1,10 +1,8 @@
 -- Entry i of a lesson's file: where it is, its call, and the turn of the loop that makes it.
 use mathlib.Core.Path.{_≡_, sym, ap, ap₂, subst, _∙_}
-use mathlib.Core.Bool.{cond}
 use mathlib.Core.List.{List, []}
 use Prim.Native.Nat.{ℕ, _+_, _≤_, _<_}
 use native.Mathlib.Omega.{arith}
-use lib.Dec.{leb}
 use lib.ListN.{length, getD, take}
 use lib.Seq.{sets}
 use Rattle.refusal.specs.declared.Checked.the-variants.{Accepted}
@@ -18,7 +16,8 @@ use Rattle.lesson.proofs.Count.{entry-count, accepted-lesson}
 use Rattle.lesson.proofs.Locate.{entry-is}
 use Rattle.replay.specs.Results.{callWith, callOf, answerBytes, resultWith, resultOf, flatAnswer}
 use Rattle.replay.proofs.Numbers.{call-numbered, call-chip, buffer-bytes, entry-within}
-use Rattle.replay.proofs.Turn.{Turn, turn}
+use Rattle.replay.specs.Replay.{playedBytes}
+use Rattle.replay.proofs.Turn.{Turn, total, turn}
 
 -- an entry that is none
 abbrev nothing : LessonEntry
@@ -53,15 +52,6 @@ module _ (c : Chip) (kind : ℕ) (body reply after : List ℕ) (answer : FlatAns
         (ap (λ (a : FlatAnswer). a .refusal) same ∙ call-numbered c made .refusal)
         (ap (λ (a : FlatAnswer). a .pid) same ∙ call-numbered c made .pid)
 
-    -- what is left in a buffer where it fits
-    pub put : (out : List ℕ) (size : ℕ)
-        → cond (leb (size + (4 + length (take (answer .count) after))) (length out))
-        (sets out size (resultWith (answer .refusal) (answer .pid) (take (answer .count) after))) out
-        ≡ cond (leb (size + (4 + length (answerBytes (answerOf max3420e c made)))) (length out))
-        (sets out size (resultOf (answerOf max3420e c made))) out
-    put out size =
-        ap₂ (λ (vs ws : List ℕ). cond (leb (size + (4 + length vs)) (length out)) (sets out size ws) out) bytes result
-
     pub next : answer .chip ≡ callTo max3420e c made
     next = ap (λ (a : FlatAnswer). a .chip) same ∙ call-chip c made
 
@@ -78,30 +68,39 @@ module _ (f : List ℕ) (ok : readingChecked (lessonOf f) ≡ Accepted) (i : ℕ
   pub located : Located f i
   located = there .0
 
-  pub turned : (c : Chip) (size : ℕ) (out out₀ : List ℕ) → Turn l i c size out out₀
-      → (kind : ℕ) (body reply after out′ : List ℕ) (answer : FlatAnswer) → kind ≡ entryAt f i .kind → body ≡ entryAt f i .body
-      → length reply ≡ 4096 → answer ≡ flatAnswer c (callWith (length reply) kind body)
-      → after ≡ bufferAfter (answerOf max3420e c (callWith (length reply) kind body)) reply
-      → out′ ≡ cond (leb (size + (4 + length (take (answer .count) after))) (length out))
-      (sets out size (resultWith (answer .refusal) (answer .pid) (take (answer .count) after))) out
-      → Turn l (i + 1) (answer .chip) (size + (4 + answer .count)) out′ out₀
-  turned c size out out₀ t kind body reply after out′ answer k b room told lent written =
-      subst (λ (d : Chip). Turn l (i + 1) d (size + (4 + answer .count)) out′ out₀)
-      (sym (next c kind body reply after answer room told lent))
-      (subst (λ (n : ℕ). Turn l (i + 1) (callTo max3420e c call) (size + (4 + n)) out′ out₀)
-      (sym (counted c kind body reply after answer room told))
-      (subst (λ (o : List ℕ). Turn l (i + 1) (callTo max3420e c call) (size + (4 + length (answerBytes (answerOf max3420e c call)))) o out₀)
-      (sym (written ∙ put c kind body reply after answer room told lent out size))
-      (subst After is (turn l i c size out out₀ nothing more t (entry-within c 4096 (getD l i nothing .kind) (getD l i nothing .body) (omega arith))))))
-    where
-      call : Call
-      call = callWith 4096 kind body
+  -- the call of its kind and body
+  module _ (c : Chip) (size : ℕ) (out out₀ : List ℕ) (t : Turn l i c size out out₀) (kind : ℕ) (body reply after : List ℕ)
+      (answer : FlatAnswer) (k : kind ≡ entryAt f i .kind) (b : body ≡ entryAt f i .body) (room : length reply ≡ 4096)
+      (told : answer ≡ flatAnswer c (callWith (length reply) kind body)) where
+    abbrev pub call : Call
+    call = callWith 4096 kind body
 
-      is : callOf (getD l i nothing) ≡ call
-      is = ap callOf (there .1) ∙ ap₂ (callWith 4096) (sym k) (sym b)
+    is : callOf (getD l i nothing) ≡ call
+    is = ap callOf (there .1) ∙ ap₂ (callWith 4096) (sym k) (sym b)
 
-      After : Call → Type 0
-      After j =
-          Turn l (i + 1) (callTo max3420e c j) (size + (4 + length (answerBytes (answerOf max3420e c j))))
-          (cond (leb (size + (4 + length (answerBytes (answerOf max3420e c j)))) (length out)) (sets out size (resultOf (answerOf max3420e c j))) out)
-          out₀
+    -- its result is a part of the whole
+    pub part : size + (4 + answer .count) ≤ length (playedBytes l)
+    part =
+        omega (
+          arith,
+          counted c kind body reply after answer room told,
+          ap (λ (j : Call). length (answerBytes (answerOf max3420e c j))) is,
+          total l i c size out out₀ nothing more t,
+        )
+
+    pub turned : (out′ : List ℕ) → after ≡ bufferAfter (answerOf max3420e c (callWith (length reply) kind body)) reply
+        → out′ ≡ sets out size (resultWith (answer .refusal) (answer .pid) (take (answer .count) after))
+        → Turn l (i + 1) (answer .chip) (size + (4 + answer .count)) out′ out₀
+    turned out′ lent written =
+        subst (λ (d : Chip). Turn l (i + 1) d (size + (4 + answer .count)) out′ out₀)
+        (sym (next c kind body reply after answer room told lent))
+        (subst (λ (n : ℕ). Turn l (i + 1) (callTo max3420e c call) (size + (4 + n)) out′ out₀)
+        (sym (counted c kind body reply after answer room told))
+        (subst (λ (o : List ℕ). Turn l (i + 1) (callTo max3420e c call) (size + (4 + length (answerBytes (answerOf max3420e c call)))) o out₀)
+        (sym (written ∙ ap (sets out size) (result c kind body reply after answer room told lent)))
+        (subst After is (turn l i c size out out₀ nothing more t (entry-within c 4096 (getD l i nothing .kind) (getD l i nothing .body) (omega arith))))))
+      where
+        After : Call → Type 0
+        After j =
+            Turn l (i + 1) (callTo max3420e c j) (size + (4 + length (answerBytes (answerOf max3420e c j)))) (sets out size (resultOf (answerOf max3420e c j)))
+            out₀

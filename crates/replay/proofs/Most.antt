@@ -1,19 +1,18 @@
 -- How many bytes a lesson is answered with at the most.
-use mathlib.Core.Path.{_≡_}
 use mathlib.Core.List.{List, [], _∷_}
 use Prim.Native.Nat.{ℕ, _+_, _*_, _≤_}
 use native.Mathlib.Omega.{arith}
 use lib.ListN.{length, length-append}
-use Rattle.refusal.specs.declared.Checked.the-variants.{Accepted}
 use Rattle.chip.specs.declared.Chip.{Chip}
 use Rattle.chip.specs.Record.{powerOnChip}
 use Rattle.model.specs.Call.{Answer, callTo, answerOf, history}
 use Rattle.rules.specs.Event.{max3420e}
 use Rattle.lesson.specs.Lesson.{LessonEntry, bodies}
-use Rattle.lesson.specs.Read.{lessonOf, entriesOf, readingChecked}
-use Rattle.lesson.proofs.Count.{accepted-lesson, bodies-most}
+use Rattle.lesson.specs.Read.{lessonOf, entriesOf}
+use Rattle.lesson.proofs.Count.{accepted-lesson, bodies-most, headed-size}
 use Rattle.replay.specs.Results.{callOf, resultOf, results}
 use Rattle.replay.specs.Replay.{playedBytes}
+use Rattle.replay.specs.Room.{Counted, enoughRoom}
 use Rattle.replay.proofs.Numbers.{entry-most}
 use Rattle.replay.proofs.Turn.{leftBytes}
 
@@ -32,9 +31,13 @@ left-most c (e ∷ es) =
       left-most (callTo max3420e c (callOf e)) es,
     )
 
-pub played-most : (f : List ℕ) → readingChecked (lessonOf f) ≡ Accepted
-    → length (playedBytes (entriesOf (lessonOf f))) ≤ 68 * length (entriesOf (lessonOf f)) + length f
+-- room that is enough for every lesson of its entries and its bytes
+pub played-most : (f : List ℕ) (n : ℕ) → Counted f n → length (playedBytes (entriesOf (lessonOf f))) ≤ enoughRoom n (length f)
 unfolding playedBytes
-played-most f ok =
+played-most f n h =
     let l : List LessonEntry = entriesOf (lessonOf f) in
-    omega (arith, left-most powerOnChip l, bodies-most f l (accepted-lesson f ok))
+    omega (arith, left-most powerOnChip l, bodies-most f l (accepted-lesson f (h .accepted)), h .count)
+
+-- and for every lesson
+pub enough-most : (f : List ℕ) (n : ℕ) → Counted f n → enoughRoom n (length f) ≤ 82876
+enough-most f n h = omega (arith, headed-size f (entriesOf (lessonOf f)) (accepted-lesson f (h .accepted)) .1, h .few)

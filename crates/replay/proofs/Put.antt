@@ -1,12 +1,13 @@
--- A result is put byte by byte: refusal, PID, count, then the bytes.
+-- What is put into a buffer: a result byte by byte, refusal, PID, count, then the bytes; and all that was kept.
 use mathlib.Core.Path.{_≡_, ap, ap₂, _∙_}
 use mathlib.Core.List.{List, _++_}
-use Prim.Native.Nat.{ℕ, suc, _+_}
+use Prim.Native.Nat.{ℕ, suc, _+_, _≤_}
 use native.Mathlib.Omega.{arith}
-use lib.ListN.{length, set}
-use lib.Seq.{sets}
+use lib.ListN.{length, set, take, drop}
+use lib.Seq.{sets, take-append-seam}
+use Rattle.model.specs.Reply.{lent}
 use Rattle.little_endian.specs.Number.{littleEndian}
-use Rattle.little_endian.proofs.Put.{put-put}
+use Rattle.little_endian.proofs.Put.{put-put, put-first}
 use Rattle.replay.specs.Results.{resultWith}
 
 pub put-result : (xs ys zs bytes : List ℕ) (place refusal pid : ℕ)
@@ -33,3 +34,8 @@ put-result xs ys zs bytes place refusal pid counted ended =
 
     fourth : place + 4 ≡ place + 2 + length count
     fourth = omega arith
+
+-- bytes that were lent to one buffer, put at the start of another where they fit, are lent to that
+pub put-kept : (vs kept zs xs : List ℕ) (n : ℕ) → n ≡ length vs → kept ≡ lent vs zs → length vs ≤ length xs → sets xs 0 (take n kept) ≡ lent vs xs
+put-kept vs kept zs xs n size is fits =
+    ap (sets xs 0) (ap₂ take size is ∙ take-append-seam vs (drop (length vs) zs)) ∙ put-first vs xs fits

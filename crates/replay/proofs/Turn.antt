@@ -1,14 +1,11 @@
 -- The loop over the entries of a lesson: before entry i, what is still to be played and to be written makes the whole.
 use mathlib.Core.Path.{_≡_, refl, sym, ap, _∙_}
-use mathlib.Core.Bool.{Bool, true, false, cond}
 use mathlib.Core.List.{List, [], _∷_, _++_}
 use Prim.Native.Nat.{ℕ, _+_, _*_, _≤_, _<_}
 use native.Mathlib.Numerals.{add-one}
 use native.Mathlib.Omega.{arith}
-use lib.Dec.{leb}
 use lib.ListN.{length, getD, drop, length-append, drop-of-length-le}
 use lib.Seq.{sets, drop-cons, length-sets}
-use borrow.Author.Tests.{le-leb}
 use Rattle.chip.specs.declared.Chip.{Chip}
 use Rattle.chip.specs.Record.{powerOnChip}
 use Rattle.model.specs.Reply.{lent}
@@ -34,11 +31,11 @@ pub record Turn (l : List LessonEntry) (i : ℕ) (c : Chip) (filled : ℕ) (out 
   pub sized : length out ≡ length out₀
   pub chip : runTo max3420e c (callsOf (drop i l)) ≡ playedTo l
   pub size : filled + length (leftBytes c (drop i l)) ≡ length (playedBytes l)
-  pub written : length (playedBytes l) ≤ length out₀ → sets out filled (leftBytes c (drop i l)) ≡ sets out₀ 0 (playedBytes l)
+  pub written : sets out filled (leftBytes c (drop i l)) ≡ sets out₀ 0 (playedBytes l)
 
 pub start : (l : List LessonEntry) (out : List ℕ) → Turn l 0 powerOnChip 0 out out
 unfolding playedBytes playedTo
-start l out = record { within = omega arith; small = omega arith; sized = refl; chip = refl; size = omega arith; written = λ _. refl }
+start l out = record { within = omega arith; small = omega arith; sized = refl; chip = refl; size = omega arith; written = refl }
 
 -- ---- one entry
 
@@ -60,37 +57,28 @@ module _ (l : List LessonEntry) (i : ℕ) (c : Chip) (filled : ℕ) (out out₀ 
   unfolding history results answerOf
   left-bytes = ap (λ (es : List LessonEntry). leftBytes c es) opened
 
+  abbrev pub rest : List ℕ
+  rest = leftBytes (callTo max3420e c here) (drop (i + 1) l)
+
+  -- its result is a part of the whole
+  pub total : Turn l i c filled out out₀ → filled + (4 + length (answerBytes answer)) + length rest ≡ length (playedBytes l)
+  total t = omega (arith, t .size, ap length left-bytes, length-append (resultOf answer) rest)
+
   pub turn : Turn l i c filled out out₀ → length (answerBytes answer) ≤ 4096
-      → Turn l (i + 1) (callTo max3420e c here) (filled + (4 + length (answerBytes answer)))
-      (cond (leb (filled + (4 + length (answerBytes answer))) (length out)) (sets out filled (resultOf answer)) out) out₀
+      → Turn l (i + 1) (callTo max3420e c here) (filled + (4 + length (answerBytes answer))) (sets out filled (resultOf answer)) out₀
   turn t few = record {
     within = omega arith;
     small = omega (arith, t .small);
-    sized = same ∙ t .sized;
+    sized = length-sets out filled (resultOf answer) ∙ t .sized;
     chip = sym left-run ∙ t .chip;
-    size = total;
-    written = λ fits.
-        ap (λ (b : Bool). sets (cond b (sets out filled (resultOf answer)) out) (filled + (4 + length (answerBytes answer))) rest)
-        (le-leb (filled + (4 + length (answerBytes answer))) (length out) (omega (arith, total, t .sized)))
-        ∙ ap (λ (n : ℕ). sets (sets out filled (resultOf answer)) (filled + n) rest)
+    size = total t;
+    written =
+        ap (λ (n : ℕ). sets (sets out filled (resultOf answer)) (filled + n) rest)
         (result-length (answerRefusal answer) (answerPid answer) (answerBytes answer))
         ∙ put-put (resultOf answer) rest out filled
         ∙ ap (sets out filled) (sym left-bytes)
-        ∙ t .written fits;
+        ∙ t .written;
   }
-    where
-      rest : List ℕ
-      rest = leftBytes (callTo max3420e c here) (drop (i + 1) l)
-
-      total : filled + (4 + length (answerBytes answer)) + length rest ≡ length (playedBytes l)
-      total = omega (arith, t .size, ap length left-bytes, length-append (resultOf answer) rest)
-
-      same : length (cond (leb (filled + (4 + length (answerBytes answer))) (length out)) (sets out filled (resultOf answer)) out) ≡ length out
-      same = either (leb (filled + (4 + length (answerBytes answer))) (length out))
-        where
-          either : (b : Bool) → length (cond b (sets out filled (resultOf answer)) out) ≡ length out
-          either true = length-sets out filled (resultOf answer)
-          either false = refl
 
 -- ---- after the last
 
@@ -110,4 +98,4 @@ module _ (l : List LessonEntry) (i : ℕ) (c : Chip) (filled : ℕ) (out out₀ 
   last-size = omega (arith, t .size, ap length nothing)
 
   pub last-written : length (playedBytes l) ≤ length out₀ → out ≡ lent (playedBytes l) out₀
-  last-written fits = ap (sets out filled) (sym nothing) ∙ t .written fits ∙ put-first (playedBytes l) out₀ fits
+  last-written fits = ap (sets out filled) (sym nothing) ∙ t .written ∙ put-first (playedBytes l) out₀ fits

@@ -1,3 +1,4 @@
 pub mod Results
 pub mod Replay
+pub mod Room
 pub mod Examples

@@ -6,18 +6,16 @@ use flat::FlatAnswer;
 use refusal::Checked;
 use refusal::Refusal;
 ghost use mathlib.Core.Path.{_≡_};
-ghost use mathlib.Core.Bool.{cond};
 ghost use Prim.Native.Nat.{_+_, _≤_, _<_};
-ghost use lib.Dec.{leb};
 ghost use lib.ListN.{length};
 ghost use lib.Seq.{sets};
-ghost use Rattle.refusal.specs.declared.Checked.the-variants.{Accepted};
 ghost use Rattle.model.specs.Reply.{lent};
 ghost use Rattle.model.specs.Call.{answerOf, bufferAfter};
 ghost use Rattle.rules.specs.Event.{max3420e};
-ghost use Rattle.lesson.specs.Read.{lessonOf, entriesOf, readingChecked};
+ghost use Rattle.lesson.specs.Read.{lessonOf, entriesOf};
 ghost use Rattle.replay.specs.Results.{callWith, resultWith, flatAnswer};
 ghost use Rattle.replay.specs.Replay.{playedBytes, playedTo, replayAnswerWith, replayAnswer, replayBuffer};
+ghost use Rattle.replay.specs.Room.{Counted, enoughRoom};
 
 // What a lesson is replied: a refusal, or how many bytes are written.
 pub enum ReplayReply {
@@ -34,6 +32,9 @@ pub struct ReplayAnswer {
 
 // The bytes lent to each call.
 const ROOM: usize = 4096;
+
+// No lesson is answered with more bytes: its file has 65,536 at the most, and 68 come for each of 255 entries.
+const MOST: usize = 82876;
 
 // A kind of entry: a transfer.
 const TRANSFER: u8 = 1;
@@ -68,27 +69,13 @@ fn put_result(output: &mut [u8], at: usize, refusal: u8, pid: u8, bytes: &[u8])
     little_endian::put_bytes(output, at + 4, bytes);
 }
 
-// The same where it fits, else nothing.
-fn put_fitting(output: &mut [u8], at: usize, refusal: u8, pid: u8, bytes: &[u8])
-    requires { ⌜ (at ≤ 16777216) × (length (now bytes) < 65536) ⌝ }
-    ensures { λ _. ⌜ now (output .exit)
-        ≡ cond (leb (at + (4 + length (now (bytes .entry)))) (length (now (output .entry))))
-        (sets (now (output .entry)) at (resultWith refusal pid (now (bytes .entry)))) (now (output .entry)) ⌝ }
-{
-    if at + (4 + bytes.len()) <= output.len() {
-        put_result(output, at, refusal, pid, bytes);
-    }
-}
-
-// Makes all calls of a lesson from power-on, and writes what they are answered if all of it fits.
-fn play_all(file: &[u8], output: &mut [u8]) -> Run
-    requires { ⌜ readingChecked (lessonOf (now file)) ≡ Accepted ⌝ }
+// Makes all calls of a lesson from power-on, and writes what they are answered.
+fn play_all(file: &[u8], n: usize, output: &mut [u8]) -> Run
+    requires { ⌜ Counted (now file) n × (enoughRoom n (length (now file)) ≤ length (now output)) ⌝ }
     ensures { λ r. ⌜ (r .chip ≡ playedTo (entriesOf (lessonOf (now (file .entry)))))
         × (r .size ≡ length (playedBytes (entriesOf (lessonOf (now (file .entry))))))
-        × (r .size ≤ length (now (output .entry))
-        → now (output .exit) ≡ lent (playedBytes (entriesOf (lessonOf (now (file .entry))))) (now (output .entry))) ⌝ }
+        × (now (output .exit) ≡ lent (playedBytes (entriesOf (lessonOf (now (file .entry))))) (now (output .entry))) ⌝ }
 {
-    let n = lesson::entry_count(file);
     let mut reply = [0u8; ROOM];
     let mut run = Run {
         chip: Chip::power_on(),
@@ -100,7 +87,7 @@ fn play_all(file: &[u8], output: &mut [u8]) -> Run
         let answer = play(run.chip, kind, lesson::body_at(file, i), &mut reply);
         let count = answer.count as usize;
         let size = run.size;
-        put_fitting(output, size, answer.refusal, answer.pid, &reply[..count]);
+        put_result(output, size, answer.refusal, answer.pid, &reply[..count]);
         let chip = answer.chip;
         run = Run {
             chip,
@@ -111,37 +98,28 @@ fn play_all(file: &[u8], output: &mut [u8]) -> Run
     run
 }
 
-// How many bytes the calls of a lesson are answered with.
-fn measure(file: &[u8]) -> usize
-    requires { ⌜ readingChecked (lessonOf (now file)) ≡ Accepted ⌝ }
-    ensures { λ r. ⌜ r ≡ length (playedBytes (entriesOf (lessonOf (now (file .entry))))) ⌝ }
-{
-    // No result fits here.
-    let mut none = [0u8; 1];
-    play_all(file, &mut none).size
-}
-
-// Whether what is to be written fits. Room for a packet and the body of every entry is enough, so that no call is made twice; else it
-// is measured.
-fn fits(file: &[u8], room: usize) -> bool
-    requires { ⌜ readingChecked (lessonOf (now file)) ≡ Accepted ⌝ }
-    ensures { λ r. ⌜ r ≡ leb (length (playedBytes (entriesOf (lessonOf (now (file .entry)))))) room ⌝ }
-{
-    let n = lesson::entry_count(file);
-    if file.len() <= room {
-        if 68 * n <= room - file.len() {
-            return true;
-        }
-    }
-    measure(file) <= room
-}
-
 fn answer_with(chip: Chip, reply: ReplayReply) -> ReplayAnswer
     ensures { λ r. ⌜ r ≡ replayAnswerWith chip reply ⌝ }
 {
     let g = chip.registers;
     let pin = g.pin();
     ReplayAnswer { chip, reply, pin }
+}
+
+// The same where the room may be too short: what the calls are answered is kept until it is known to fit.
+fn play_kept(file: &[u8], n: usize, output: &mut [u8]) -> ReplayAnswer
+    requires { ⌜ Counted (now file) n ⌝ }
+    ensures { λ r. ⌜ (r ≡ replayAnswer (now (file .entry)) (length (now (output .entry))))
+        × (now (output .exit) ≡ replayBuffer (now (file .entry)) (now (output .entry))) ⌝ }
+{
+    let mut kept = [0u8; MOST];
+    let run = play_all(file, n, &mut kept);
+    let size = run.size;
+    if output.len() < size {
+        return answer_with(Chip::power_on(), ReplayReply::Refused(Refusal::ShortBuffer));
+    }
+    little_endian::put_bytes(output, 0, &kept[..size]);
+    answer_with(run.chip, ReplayReply::Played(size))
 }
 
 pub fn replay(file: &[u8], output: &mut [u8]) -> ReplayAnswer
@@ -153,12 +131,13 @@ pub fn replay(file: &[u8], output: &mut [u8]) -> ReplayAnswer
             answer_with(Chip::power_on(), ReplayReply::Refused(refusal))
         }
         Checked::Accepted => {
-            if !fits(file, output.len()) {
-                return answer_with(Chip::power_on(), ReplayReply::Refused(Refusal::ShortBuffer));
+            let n = lesson::entry_count(file);
+            if 68 * n + file.len() <= output.len() {
+                let run = play_all(file, n, output);
+                let size = run.size;
+                return answer_with(run.chip, ReplayReply::Played(size));
             }
-            let run = play_all(file, output);
-            let size = run.size;
-            answer_with(run.chip, ReplayReply::Played(size))
+            play_kept(file, n, output)
         }
     }
 }

@@ -2,14 +2,14 @@
 use mathlib.Core.Path.{sym}
 use native.Mathlib.Omega.{arith}
 use Rattle.lesson.specs.Read.{lessonOf, entriesOf}
-use Rattle.lesson.proofs.Count.{entry-count, headed-long, accepted-lesson}
+use Rattle.lesson.proofs.Count.{entry-count, headed-size, accepted-lesson}
 use Rattle.lesson.proofs.entry_count.Statement.{statement}
 use Rattle.lesson.proofs.entry_count.Tie as tie
 
 shared-slice-read-result : tie.Need-shared-slice-read-result
 shared-slice-read-result c =
     let f = c .before .args .file .now in
-    omega (arith, headed-long f (entriesOf (lessonOf f)) (accepted-lesson f (c .before .pre)))
+    omega (arith, headed-size f (entriesOf (lessonOf f)) (accepted-lesson f (c .before .pre)) .0)
 
 cast-result : tie.Need-cast-result
 cast-result c = omega (arith, c .shared-slice-known .given 1)
