@@ -15,8 +15,8 @@ use Rattle.lesson.specs.Read.{lessonOf, entriesOf, readingChecked, entryAt, Loc
 use Rattle.lesson.proofs.Count.{entry-count, accepted-lesson}
 use Rattle.lesson.proofs.Locate.{entry-is}
 use Rattle.replay.specs.Results.{callWith, callOf, answerBytes, resultWith, resultOf, flatAnswer}
-use Rattle.replay.proofs.Numbers.{call-numbered, call-chip, buffer-bytes, entry-within}
 use Rattle.replay.specs.Replay.{playedBytes}
+use Rattle.replay.proofs.Numbers.{call-numbered, call-chip, buffer-bytes, entry-within}
 use Rattle.replay.proofs.Turn.{Turn, total, turn}
 
 -- an entry that is none
