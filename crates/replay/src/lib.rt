@@ -106,7 +106,7 @@ fn answer_with(chip: Chip, reply: ReplayReply) -> ReplayAnswer
     ReplayAnswer { chip, reply, pin }
 }
 
-// The same where the room may be too short: what the calls are answered is kept until it is known to fit.
+// Plays a lesson where the room may be too short: what its calls are answered is kept until it is known to fit.
 fn play_kept(file: &[u8], n: usize, output: &mut [u8]) -> ReplayAnswer
     requires { ⌜ Counted (now file) n ⌝ }
     ensures { λ r. ⌜ (r ≡ replayAnswer (now (file .entry)) (length (now (output .entry))))
@@ -132,6 +132,7 @@ pub fn replay(file: &[u8], output: &mut [u8]) -> ReplayAnswer
         }
         Checked::Accepted => {
             let n = lesson::entry_count(file);
+            // Room that is always enough: for each entry four bytes and a packet, and the bodies.
             if 68 * n + file.len() <= output.len() {
                 let run = play_all(file, n, output);
                 let size = run.size;
