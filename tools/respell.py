@@ -111,12 +111,24 @@ def rust(text, names):
     return "\n".join(out)
 
 
+def of_library(text, crates):
+    """The names that a file imports from a library: there they keep their spelling."""
+    found = set()
+    for m in re.finditer(r"use ([\w.+]+?)\.\{([^}]*)\}", text):
+        path = m[1].split(".")
+        if path[0] != "Rattle" or path[1] not in crates:
+            found.update(re.findall(WORD, m[2]))
+    return found
+
+
 def main(argv):
-    names = table()
+    every, crates = table(), set(os.listdir("crates"))
     changed = 0
     for path in files():
         with open(path, encoding="utf-8") as f:
             text = f.read()
+        kept = of_library(text, crates)
+        names = {old: new for old, new in every.items() if old not in kept}
         if path.endswith(".antt"):
             new = antt(text, names, not of_function(path))
         elif path.endswith(".rt"):
@@ -133,7 +145,7 @@ def main(argv):
         if new != text and "--check" not in argv:
             with open(path, "w", encoding="utf-8") as f:
                 f.write(new)
-    print(f"respell: {len(names)} names, {changed} files")
+    print(f"respell: {len(every)} names, {changed} files")
 
 
 main(sys.argv[1:])
