@@ -1,5 +1,5 @@
 /* The MAX3420E, a USB peripheral controller with an SPI interface, as a C library: libcapi.a, and
- * libcapi_classroom.a for the classroom, libcapi_lesson.a for lessons, libcapi_packets.a for packets.
+ * libcapi_classroom.a for the classroom, libcapi_lesson.a for lessons.
  *
  * The chip is a record. Every call takes it by value and hands back the next one: keep one record per chip and store
  * `answer.chip` after each call. A classroom of sixteen boards is a record too. The library keeps nothing and allocates
@@ -9,8 +9,8 @@
  * first `count` bytes of `reply` are written. `bytes`, `payload` and `reply` are not null, point to as many bytes as is
  * said, and do not overlap. Event codes, limits and refusals are those of docs/.
  *
- * The calls on lessons and on packets take no record. What is lent to them is as above: not null, of as many elements as
- * is said, and apart.
+ * The calls on lessons take no record. What is lent to them is as above: not null, of as many elements as is said, and
+ * apart.
  */
 #ifndef MAX3420E_H
 #define MAX3420E_H
@@ -29,13 +29,11 @@ enum max3420e_limit {
     MAX3420E_DESKS = 16,      /* desks of a classroom */
     MAX3420E_LESSON_FILE = 65536,  /* bytes of a lesson's file, at most */
     MAX3420E_LESSON_ENTRIES = 255, /* entries of a lesson, at most */
-    MAX3420E_LESSON_ROW = 11,      /* bytes of an entry in the file's table */
-    MAX3420E_EVENT_PACKETS = 74    /* bytes of an event's packets, at most, each after its length */
+    MAX3420E_LESSON_ROW = 11       /* bytes of an entry in the file's table */
 };
 
 /* Why a call is refused. They are looked at in the order of this list; the first that applies is given.
- * 9 to 12 are those of the classroom's calls; 13 is that of the calls on lessons, which else give only 4. Writing packets
- * gives 5 to 8 and, after them, 4. */
+ * 9 to 12 are those of the classroom's calls; 13 is that of the calls on lessons, which else give only 4. */
 enum max3420e_refusal {
     MAX3420E_ACCEPTED = 0,
     MAX3420E_NO_LESSON = 13,    /* a file, or what is to be written, is no lesson; `found` is the entry that is named */
@@ -46,7 +44,7 @@ enum max3420e_refusal {
     MAX3420E_UNSOUND = 1,       /* a record is not sound; a flag that is neither 0 nor 1 makes it so; at a desk, one of its own */
     MAX3420E_NO_COMMAND = 2,    /* a transfer has no command byte */
     MAX3420E_LONG_TRANSFER = 3, /* a transfer has over 4,096 bytes */
-    MAX3420E_SHORT_BUFFER = 4,  /* room is under the transfer's length, under 64 for an IN or a board step, or under what a call on lessons or packets writes */
+    MAX3420E_SHORT_BUFFER = 4,  /* room is under the transfer's length, under 64 for an IN or a board step, or under what a call on lessons writes */
     MAX3420E_UNKNOWN_EVENT = 5, /* an event code is not one of those below */
     MAX3420E_OUT_PAYLOAD = 6,   /* an OUT payload is over 64 bytes; `found` is its length */
     MAX3420E_SETUP_PAYLOAD = 8, /* a SETUP payload is not 8 bytes; `found` is its length */
@@ -98,15 +96,6 @@ enum max3420e_kind {
 enum max3420e_entry_kind {
     MAX3420E_ENTRY_TRANSFER = 1,
     MAX3420E_ENTRY_EVENT = 2
-};
-
-/* `found`: what stands next in a run of packets; 2 to 4 are what is wrong with a packet, the first that applies. */
-enum max3420e_found {
-    MAX3420E_FOUND_END = 0,        /* nothing more */
-    MAX3420E_FOUND_EVENT = 1,      /* a SETUP, OUT or IN */
-    MAX3420E_FOUND_COMPLEMENT = 2, /* a PID whose high four bits are not the complement of the low four */
-    MAX3420E_FOUND_LENGTH = 3,     /* a packet that is empty, cut off or not as long as its PID says; over 64 data bytes */
-    MAX3420E_FOUND_CHECK = 4       /* a wrong CRC5 or CRC16 */
 };
 
 /* The two buffers of a double-buffered endpoint; buffer i stands at byte 64 * i. */
@@ -294,41 +283,6 @@ typedef struct {
     size_t count;       /* bytes written to `output`; 0 where it is refused */
 } max3420e_replay_answer;
 
-/* ---- packets: what an analyser records on the bus, and what a host sends */
-
-/* A run is packets one after the other, each after its 16-bit length, low byte first. A packet is its PID byte, then
- *   SETUP 2D, OUT E1, IN 69, SOF A5:  11 bits (the address and, above its seven bits, the endpoint; SOF: the frame's
- *                                     number) and above them their CRC5; two bytes, low byte first;
- *   DATA0 C3, DATA1 4B:               0 to 64 bytes, and their CRC16, low byte first;
- *   ACK D2, NAK 5A, STALL 1E:         nothing.
- * Packets with other PIDs are looked at no further than the PID's complement.
- *
- * A SETUP, OUT or IN token, with its group, which is what follows to the next of these tokens, to a bad packet or to the
- * run's end, becomes an event: SETUP with the group's first DATA0, OUT with its first DATA0 or DATA1, without it no event;
- * IN always, and acknowledged if the group has an ACK. Bad packets are told one by one and become no event. All other
- * packets are skipped. */
-
-/* What max3420e_next_item hands back. From `code` to `acknowledged` and in `start` and `count` 0 is what does not apply. */
-typedef struct {
-    uint8_t found;        /* enum max3420e_found */
-    uint8_t code;         /* the event's, enum max3420e_event_code: 10 to 12 */
-    uint8_t address;      /* 0 to 127 */
-    uint8_t endpoint;     /* 0 to 15 */
-    uint8_t data1;        /* flag: an OUT's data are DATA1 */
-    uint8_t acknowledged; /* flag: an IN is acknowledged */
-    size_t place;         /* where the length of the token or the bad packet stands in the run; at the end, `next` */
-    size_t next;          /* where to go on: behind the event's group or the bad packet; at the end, behind the last one */
-    size_t skipped;       /* packets skipped from `at` to the item, and in the event's group */
-    size_t start;         /* a SETUP's or OUT's payload: where it begins in the run */
-    size_t count;         /* and its bytes, 0 to 64; a SETUP may have another number than 8, which max3420e_event refuses */
-} max3420e_item;
-
-typedef struct {
-    uint8_t refusal; /* enum max3420e_refusal: 0 or 4 to 8 */
-    size_t found;    /* the payload's length, if `refusal` is 6 or 8; else 0 */
-    size_t count;    /* bytes written to `packets` */
-} max3420e_packets_answer;
-
 /* The record at power-on. */
 max3420e_chip max3420e_power_on(void);
 
@@ -401,24 +355,6 @@ max3420e_replay_answer max3420e_replay(const uint8_t *file, size_t length, uint8
 /* The ticks from one entry to a later one: `to` less `from` modulo 2 to the 32, so that the count may wrap between them.
  * A replay does not look at ticks. */
 uint32_t max3420e_elapsed(uint32_t from, uint32_t to);
-
-/* The next event or bad packet of a run from the place `at` on, or its end. Begin with `at` 0 and go on with `next` of each
- * item until MAX3420E_FOUND_END. A place at or behind the run's end is its own end. Never refused. */
-max3420e_item max3420e_next_item(const uint8_t *run, size_t length, size_t at);
-
-/* Writes the host's packets of an event: SETUP and OUT their token and data, IN its token and, if acknowledged, the ACK. A
- * damaged SETUP or OUT and the events 1 to 9 have none. `damaged`, `data1`, `acknowledged`: 0 is no, anything else yes.
- * Refusals 5 to 8 as the event's. Else 4: `room` is under what is written. Refused, it writes no byte; else just the first
- * `count` bytes of `packets`, which read back as that event. MAX3420E_EVENT_PACKETS bytes are always room enough. */
-max3420e_packets_answer max3420e_write_packets(uint8_t code, uint8_t address, uint8_t endpoint, uint8_t damaged,
-                                               uint8_t data1, uint8_t acknowledged, const uint8_t *payload,
-                                               size_t length, uint8_t *packets, size_t room);
-
-/* The CRC16 of a data packet's bytes, as it is sent low byte first. */
-uint16_t max3420e_crc16(const uint8_t *bytes, size_t length);
-
-/* The CRC5 of the low 11 bits, as it stands above them in a token. */
-uint8_t max3420e_crc5(uint16_t bits);
 
 #ifdef __cplusplus
 }

@@ -1,5 +1,4 @@
-//! Links libcapi.a, libcapi_classroom.a, libcapi_lesson.a and libcapi_packets.a, the proved model, where all exist, and sets
-//! `cfg(capi)` then.
+//! Links libcapi.a, libcapi_classroom.a and libcapi_lesson.a, the proved model, where all exist, and sets `cfg(capi)` then.
 //! Their folder is CAPI_DIR; without that variable ../target/staticlib, and a missing archive is no error: what needs it is left out.
 //! BEFORE_DIR is the folder of an earlier commit's libcapi.a, to be measured beside this one: linked too, `cfg(before)`.
 
@@ -16,8 +15,7 @@ fn main() {
     println!("cargo::rerun-if-env-changed=BEFORE_DIR");
     let named = std::env::var_os("CAPI_DIR").map(PathBuf::from);
     let folder = named.clone().unwrap_or_else(|| Path::new(env!("CARGO_MANIFEST_DIR")).join("../target/staticlib"));
-    let names = ["capi", "capi_classroom", "capi_lesson", "capi_packets"];
-    let archives = names.map(|name| (name, folder.join(format!("lib{name}.a"))));
+    let archives = ["capi", "capi_classroom", "capi_lesson"].map(|name| (name, folder.join(format!("lib{name}.a"))));
     for (_, archive) in &archives {
         // Also where it is missing: cargo then looks again at every build.
         println!("cargo::rerun-if-changed={}", archive.display());

@@ -1,10 +1,9 @@
 #!/bin/sh
 # The C interface: the header's layout against the library, and the firmware of examples/ on the model, under the address and
-# undefined-behaviour sanitizers. Run it once the four archives are built (rt staticlib NAME: capi, capi_classroom, capi_lesson,
-# capi_packets).
+# undefined-behaviour sanitizers. Run it once the three archives are built (rt staticlib NAME: capi, capi_classroom, capi_lesson).
 set -eu
 cd "$(dirname "$0")/.."
-for name in capi capi_classroom capi_lesson capi_packets; do
+for name in capi capi_classroom capi_lesson; do
     [ -f "target/staticlib/lib$name.a" ] || { echo "c: lib$name.a is missing: rt staticlib $name" >&2; exit 1; }
 done
 work=$(mktemp -d)
@@ -17,7 +16,7 @@ build() {
     shift
     cc -std=c99 -Wall -Wextra -Werror -pedantic -g -fsanitize=address,undefined -fno-sanitize-recover=all \
         -Iinclude -Iexamples "$@" target/staticlib/libcapi.a target/staticlib/libcapi_classroom.a \
-        target/staticlib/libcapi_lesson.a target/staticlib/libcapi_packets.a -o "$work/$name"
+        target/staticlib/libcapi_lesson.a -o "$work/$name"
 }
 
 build layout tests/layout.c
@@ -35,7 +34,4 @@ cmp "$work/classroom.out" examples/classroom_c.out
 build lesson examples/lesson.c
 "$work/lesson" >"$work/lesson.out"
 cmp "$work/lesson.out" examples/lesson_c.out
-build packets examples/packets.c
-"$work/packets" >"$work/packets.out"
-cmp "$work/packets.out" examples/packets_c.out
-echo "c: layout, connect, firmware, classroom, lesson and packets as expected"
+echo "c: layout, connect, firmware, classroom and lesson as expected"

@@ -1,8 +1,7 @@
 /* Does libcapi.a lay out the records as include/max3420e.h does? Prints where each field stands. Checks that a refused
  * call hands a record of distinct values back, field by field; that each byte of it has its own limit of soundness; and
  * what single calls read and change, which tells fields with equal limits apart. The same of a classroom, desk by desk,
- * and of lessons: files by hand, and a replay beside the same calls made one by one. Of packets: runs by hand, items of
- * distinct values, and events written and read back. Exit status 1 on a mismatch. */
+ * and of lessons: files by hand, and a replay beside the same calls made one by one. Exit status 1 on a mismatch. */
 #include <stdio.h>
 #include <string.h>
 
@@ -76,10 +75,6 @@ static const field other_fields[] = {
     OF(max3420e_lesson_answer, refusal), OF(max3420e_lesson_answer, found), OF(max3420e_lesson_answer, count),
     OF(max3420e_replay_answer, chip), OF(max3420e_replay_answer, refusal), OF(max3420e_replay_answer, pin),
     OF(max3420e_replay_answer, found), OF(max3420e_replay_answer, count),
-    OF(max3420e_item, found), OF(max3420e_item, code), OF(max3420e_item, address), OF(max3420e_item, endpoint),
-    OF(max3420e_item, data1), OF(max3420e_item, acknowledged), OF(max3420e_item, place), OF(max3420e_item, next),
-    OF(max3420e_item, skipped), OF(max3420e_item, start), OF(max3420e_item, count),
-    OF(max3420e_packets_answer, refusal), OF(max3420e_packets_answer, found), OF(max3420e_packets_answer, count),
 };
 
 static unsigned mismatches;
@@ -792,115 +787,6 @@ static void check_elapsed(void)
     expect(max3420e_elapsed(0xFFFFFFF0, 0x10) == 0x20 && max3420e_elapsed(5, 4) == 0xFFFFFFFF, "ticks across the wrap");
 }
 
-/* ACK, SOF; OUT to address 85, endpoint 13, with SOF, DATA1 of nine bytes, ACK, STALL and another PID; IN to address 3,
- * endpoint 3, with NAK and ACK; a PID without its complement; an ACK with a byte more; an SOF with a wrong check; SETUP to
- * address 9, endpoint 2, with DATA0 of three bytes; a lone byte. */
-static const uint8_t packet_run[] = {
-    1, 0, 0xD2, 3, 0, 0xA5, 0x01, 0xE8,
-    3, 0, 0xE1, 0xD5, 0x2E, 3, 0, 0xA5, 0x01, 0xE8,
-    12, 0, 0x4B, 1, 2, 3, 4, 5, 6, 7, 8, 9, 0xF1, 0x4D, 1, 0, 0xD2, 1, 0, 0x1E, 2, 0, 0x3C, 7,
-    3, 0, 0x69, 0x83, 0xC9, 1, 0, 0x5A, 1, 0, 0xD2,
-    1, 0, 0xD3, 2, 0, 0xD2, 0, 3, 0, 0xA5, 0x01, 0xE0,
-    3, 0, 0x2D, 0x09, 0xB1, 6, 0, 0xC3, 9, 8, 7, 0x18, 0x3F,
-    5
-};
-
-static void expect_item(size_t length, size_t at, max3420e_item wanted, const char *what)
-{
-    max3420e_item item = max3420e_next_item(packet_run, length, at);
-    expect(item.found == wanted.found && item.code == wanted.code, what);
-    expect(item.address == wanted.address && item.endpoint == wanted.endpoint, what);
-    expect(item.data1 == wanted.data1 && item.acknowledged == wanted.acknowledged, what);
-    expect(item.place == wanted.place && item.next == wanted.next && item.skipped == wanted.skipped, what);
-    expect(item.start == wanted.start && item.count == wanted.count, what);
-}
-
-/* Each item of the run, and places elsewhere in it and behind it. */
-static void check_items(void)
-{
-    const size_t all = sizeof packet_run;
-    const max3420e_item out = {MAX3420E_FOUND_EVENT, MAX3420E_OUT_TOKEN, 85, 13, 1, 0, 8, 42, 6, 21, 9};
-    const max3420e_item in = {MAX3420E_FOUND_EVENT, MAX3420E_IN_TOKEN, 3, 3, 0, 1, 42, 53, 1, 0, 0};
-    const max3420e_item setup = {MAX3420E_FOUND_EVENT, MAX3420E_SETUP_TOKEN, 9, 2, 0, 0, 65, 78, 0, 73, 3};
-    expect(all == 79, "the run's size");
-    expect_item(all, 0, out, "an OUT");
-    expect_item(all, out.next, in, "an IN");
-    expect_item(all, 53, (max3420e_item){.found = MAX3420E_FOUND_COMPLEMENT, .place = 53, .next = 56}, "a wrong complement");
-    expect_item(all, 56, (max3420e_item){.found = MAX3420E_FOUND_LENGTH, .place = 56, .next = 60}, "a wrong length");
-    expect_item(all, 60, (max3420e_item){.found = MAX3420E_FOUND_CHECK, .place = 60, .next = 65}, "a wrong check");
-    expect_item(all, 65, setup, "a SETUP");
-    expect_item(all, 78, (max3420e_item){.found = MAX3420E_FOUND_LENGTH, .place = 78, .next = 79}, "a lone byte");
-    expect_item(all, 79, (max3420e_item){.place = 79, .next = 79}, "the end");
-    expect_item(all, SIZE_MAX, (max3420e_item){.place = SIZE_MAX, .next = SIZE_MAX}, "a place behind the end");
-    expect_item(0, 0, (max3420e_item){.place = 0, .next = 0}, "no packets");
-    expect_item(38, 13, (max3420e_item){.place = 38, .next = 38, .skipped = 4}, "packets that no token owns");
-    expect_item(55, 50, (max3420e_item){.found = MAX3420E_FOUND_LENGTH, .place = 53, .next = 55, .skipped = 1}, "cut off");
-}
-
-/* What writing an event with this room gives; the lent bytes are just those wanted, or as they were. */
-static void expect_packets(const max3420e_item *event, uint8_t damaged, const uint8_t *payload, size_t length, size_t room,
-                           max3420e_packets_answer wanted, const uint8_t *packets, const char *what)
-{
-    uint8_t output[MAX3420E_EVENT_PACKETS + 6];
-    memset(output, 0xEE, sizeof output);
-    max3420e_packets_answer answer = max3420e_write_packets(event->code, event->address, event->endpoint, damaged,
-                                                            event->data1, event->acknowledged, payload, length, output, room);
-    expect(answer.refusal == wanted.refusal && answer.found == wanted.found && answer.count == wanted.count, what);
-    expect(memcmp(output, packets, wanted.count) == 0, what);
-    for (size_t i = wanted.count; i < sizeof output; i++)
-        expect(output[i] == 0xEE, what);
-}
-
-/* Events whose packets stand in the run, with each room; refusals, each with those that come after it; what has no packets. */
-static void check_packets(void)
-{
-    static const uint8_t setup_bytes[8] = {0x80, 6, 0, 1, 0, 0, 0x40, 0}, many[70000];
-    static const uint8_t setup_packets[18] = {3, 0, 0x2D, 0x00, 0x10, 11, 0, 0xC3, 0x80, 6, 0, 1, 0, 0, 0x40, 0, 0xDD, 0x94};
-    max3420e_item out = {.code = MAX3420E_OUT_TOKEN, .address = 85, .endpoint = 13, .data1 = 2};
-    max3420e_item in = {.code = MAX3420E_IN_TOKEN, .address = 3, .endpoint = 3, .acknowledged = 0x80};
-    max3420e_item setup = {.code = MAX3420E_SETUP_TOKEN, .data1 = 1, .acknowledged = 1}, other = {0};
-    uint8_t out_packets[19], in_packets[8];
-    memcpy(out_packets, packet_run + 8, 5), memcpy(out_packets + 5, packet_run + 18, 14);
-    memcpy(in_packets, packet_run + 42, 5), memcpy(in_packets + 5, packet_run + 50, 3);
-    const max3420e_packets_answer none = {0, 0, 0}, no_room = {MAX3420E_SHORT_BUFFER, 0, 0};
-    for (size_t room = 0; room <= MAX3420E_EVENT_PACKETS; room++) {
-        expect_packets(&out, 0, packet_run + 21, 9, room, room < 19 ? no_room : (max3420e_packets_answer){0, 0, 19},
-                       out_packets, "the packets of an OUT");
-        expect_packets(&in, 1, many, 65, room, room < 8 ? no_room : (max3420e_packets_answer){0, 0, 8}, in_packets,
-                       "the packets of an IN");
-        expect_packets(&setup, 0, setup_bytes, 8, room, room < 18 ? no_room : (max3420e_packets_answer){0, 0, 18},
-                       setup_packets, "the packets of a SETUP");
-        expect_packets(&out, 2, packet_run + 21, 9, room, none, many, "a damaged OUT");
-        expect_packets(&setup, 1, setup_bytes, 8, room, none, many, "a damaged SETUP");
-    }
-    in.acknowledged = 0;
-    expect_packets(&in, 0, many, 0, 5, (max3420e_packets_answer){0, 0, 5}, in_packets, "an IN without its ACK");
-    out.address = in.address = setup.address = 128, out.endpoint = 16;
-    for (size_t length = 0; length < sizeof many; length += length < 300 ? 1 : 9973) {
-        const max3420e_packets_answer far = {MAX3420E_BAD_ADDRESS, 0, 0}, long_out = {MAX3420E_OUT_PAYLOAD, length, 0};
-        const max3420e_packets_answer setup_length = {MAX3420E_SETUP_PAYLOAD, length, 0};
-        expect_packets(&out, 0, many, length, 0, length > 64 ? long_out : far, many, "an OUT that is refused");
-        expect_packets(&setup, 1, many, length, 0, length != 8 ? setup_length : far, many, "a SETUP that is refused");
-        expect_packets(&in, 0, many, length, 0, far, many, "an IN that is refused");
-    }
-    for (unsigned code = 0; code < 256; code++) {
-        const max3420e_packets_answer unknown = {MAX3420E_UNKNOWN_EVENT, 0, 0};
-        other.code = (uint8_t)code, other.address = 200;
-        if (code < MAX3420E_SETUP_TOKEN || code > MAX3420E_IN_TOKEN)
-            expect_packets(&other, 0, many, 65, 0, code >= 1 && code <= 9 ? none : unknown, many, "other events");
-    }
-}
-
-static void check_crcs(void)
-{
-    static const uint8_t address[8] = {0, 5, 5, 0, 0, 0, 0, 0}, one[1] = {1};
-    expect(max3420e_crc16(one, 0) == 0x0000 && max3420e_crc16(one, 1) == 0x7F81, "CRC16 of a byte");
-    expect(max3420e_crc16(address, 8) == 0xA1EA && max3420e_crc16(packet_run + 21, 9) == 0x4DF1, "CRC16");
-    expect(max3420e_crc5(0) == 0x02 && max3420e_crc5(1) == 0x1D && max3420e_crc5(3 << 7 | 3) == 0x19, "CRC5");
-    for (unsigned bits = 0; bits < 65536; bits++)
-        expect(max3420e_crc5((uint16_t)bits) == max3420e_crc5((uint16_t)(bits & 0x7FF)), "CRC5 of the low 11 bits");
-}
-
 int main(void)
 {
     print_fields(chip_fields, COUNT(chip_fields));
@@ -927,9 +813,6 @@ int main(void)
     check_replay();
     check_replay_bytes();
     check_elapsed();
-    check_items();
-    check_packets();
-    check_crcs();
     if (mismatches > 0)
         return 1;
     printf("layout: %u fields agree\n", (unsigned)(COUNT(chip_fields) + COUNT(other_fields)));

@@ -74,7 +74,7 @@ pub fn event(chip: Chip, event: Event, payload: &[u8], reply: &mut [u8]) -> Answ
 }
 
 /// The length that refusals 6 and 8 tell.
-pub(crate) fn told_length(payload: &[u8], reply: &[u8]) -> usize {
+fn told_length(payload: &[u8], reply: &[u8]) -> usize {
     let length = if flipped(Flip::FoundIsRoom) { reply.len() } else { payload.len() };
     if flipped(Flip::FoundByte) {
         length % 256
@@ -83,22 +83,15 @@ pub(crate) fn told_length(payload: &[u8], reply: &[u8]) -> usize {
     }
 }
 
-/// The grounds in the order of document 01.
+/// The grounds in the order of documents 01 and 02: 8 is looked at where 6 is, before 7 (Ask 1).
 fn refusal(chip: &Chip, event: &Event, length: usize, room: usize) -> u8 {
+    let transaction = (SETUP_EVENT..=IN_EVENT).contains(&event.code);
+    let far = transaction && (event.address > 127 || event.endpoint > 15);
     if !chip.is_sound() {
         1
     } else if event.code == IN_EVENT && room < BUFFER && !flipped(Flip::ShortInRoom) {
         4
-    } else {
-        own_refusal(event, length)
-    }
-}
-
-/// The grounds that lie in the event itself; document 02: 8 is looked at where 6 is, before 7 (Ask 1).
-pub(crate) fn own_refusal(event: &Event, length: usize) -> u8 {
-    let transaction = (SETUP_EVENT..=IN_EVENT).contains(&event.code);
-    let far = transaction && (event.address > 127 || event.endpoint > 15);
-    if event.code < POWER_ON || event.code > IN_EVENT {
+    } else if event.code < POWER_ON || event.code > IN_EVENT {
         5
     } else if far && flipped(Flip::AddressFirst) {
         7

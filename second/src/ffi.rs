@@ -218,32 +218,6 @@ pub struct ReplayAnswer {
     pub count: usize,
 }
 
-/// `max3420e_item`.
-#[repr(C)]
-#[derive(Clone, Copy, Debug, PartialEq, Eq)]
-pub struct Item {
-    pub found: u8,
-    pub code: u8,
-    pub address: u8,
-    pub endpoint: u8,
-    pub data1: u8,
-    pub acknowledged: u8,
-    pub place: usize,
-    pub next: usize,
-    pub skipped: usize,
-    pub start: usize,
-    pub count: usize,
-}
-
-/// `max3420e_packets_answer`.
-#[repr(C)]
-#[derive(Clone, Copy, Debug, PartialEq, Eq)]
-pub struct PacketsAnswer {
-    pub refusal: u8,
-    pub found: usize,
-    pub count: usize,
-}
-
 // The header's offsets, as tests/layout.c prints them.
 const _: () = {
     use std::mem::offset_of;
@@ -268,10 +242,6 @@ const _: () = {
     assert!(size_of::<ReplayAnswer>() == 448 && offset_of!(ReplayAnswer, refusal) == 430);
     assert!(offset_of!(ReplayAnswer, pin) == 431 && offset_of!(ReplayAnswer, found) == 432);
     assert!(offset_of!(ReplayAnswer, count) == 440);
-    assert!(size_of::<Item>() == 48 && offset_of!(Item, endpoint) == 3 && offset_of!(Item, acknowledged) == 5);
-    assert!(offset_of!(Item, place) == 8 && offset_of!(Item, skipped) == 24 && offset_of!(Item, count) == 40);
-    assert!(size_of::<PacketsAnswer>() == 24 && offset_of!(PacketsAnswer, found) == 8);
-    assert!(offset_of!(PacketsAnswer, count) == 16);
 };
 
 #[cfg(capi)]
@@ -280,7 +250,7 @@ pub use calls::*;
 #[cfg(capi)]
 mod calls {
     use super::{Answer, BoardAnswer, Chip, Classroom, DeskAnswer, DeskStepAnswer, Firmware};
-    use super::{Item, LessonAnswer, PacketsAnswer, ReplayAnswer, RequestAnswer, TeacherAnswer};
+    use super::{LessonAnswer, ReplayAnswer, RequestAnswer, TeacherAnswer};
     use crate::bus::Event;
 
     /// A linked library's calls on a chip or a board alone.
@@ -420,21 +390,6 @@ mod calls {
         ) -> LessonAnswer;
         fn max3420e_replay(file: *const u8, length: usize, output: *mut u8, room: usize) -> ReplayAnswer;
         safe fn max3420e_elapsed(from: u32, to: u32) -> u32;
-        fn max3420e_next_item(run: *const u8, length: usize, at: usize) -> Item;
-        fn max3420e_write_packets(
-            code: u8,
-            address: u8,
-            endpoint: u8,
-            damaged: u8,
-            data1: u8,
-            acknowledged: u8,
-            payload: *const u8,
-            length: usize,
-            packets: *mut u8,
-            room: usize,
-        ) -> PacketsAnswer;
-        fn max3420e_crc16(bytes: *const u8, length: usize) -> u16;
-        safe fn max3420e_crc5(bits: u16) -> u8;
     }
 
     #[inline]
@@ -525,32 +480,5 @@ mod calls {
     #[inline]
     pub fn elapsed(from: u32, to: u32) -> u32 {
         max3420e_elapsed(from, to)
-    }
-
-    #[inline]
-    pub fn next_item(run: &[u8], at: usize) -> Item {
-        // SAFETY: as for `Linked::transfer`.
-        unsafe { max3420e_next_item(run.as_ptr(), run.len(), at) }
-    }
-
-    /// An event's `pins` are no part of a packet.
-    #[inline]
-    pub fn write_packets(event: &Event, payload: &[u8], packets: &mut [u8]) -> PacketsAnswer {
-        let Event { code, address, endpoint, damaged, data1, acknowledged, .. } = *event;
-        let (bytes, length) = (payload.as_ptr(), payload.len());
-        let (to, room) = (packets.as_mut_ptr(), packets.len());
-        // SAFETY: as for `Linked::transfer`.
-        unsafe { max3420e_write_packets(code, address, endpoint, damaged, data1, acknowledged, bytes, length, to, room) }
-    }
-
-    #[inline]
-    pub fn crc16(bytes: &[u8]) -> u16 {
-        // SAFETY: as for `Linked::transfer`.
-        unsafe { max3420e_crc16(bytes.as_ptr(), bytes.len()) }
-    }
-
-    #[inline]
-    pub fn crc5(bits: u16) -> u8 {
-        max3420e_crc5(bits)
     }
 }

@@ -2,9 +2,8 @@
 //! "Document 01" in comments is 01-scope.md; "decision N" is an entry of docs/DECISIONS.md.
 //!
 //! The model takes records by value and hands them back: `transfer`, `event`, `firmware_answer`, `board_step`, `int_pin`;
-//! `classroom` has sixteen boards, `lesson` files of calls, `packets` what an analyser sees on the bus. `runs` makes lists of
-//! calls, `script` prints them for the console, `compare` plays them on this model and another, `compare_classes` the
-//! classroom's, `compare_lessons` lessons, `compare_packets` reads and writes packets.
+//! `classroom` has sixteen boards, `lesson` files of calls. `runs` makes lists of calls, `script` prints them for the console,
+//! `compare` plays them on this model and another, `compare_classes` the classroom's, `compare_lessons` lessons.
 //! The other one is the proved library where it is linked (build.rs, `ffi`, `library`).
 
 #![deny(unsafe_code)]
@@ -16,7 +15,6 @@ pub mod classroom;
 pub mod compare;
 pub mod compare_classes;
 pub mod compare_lessons;
-pub mod compare_packets;
 mod control;
 mod descriptors;
 pub mod ffi;
@@ -27,7 +25,6 @@ pub mod lesson;
 pub mod library;
 pub mod measure;
 pub mod noticed;
-pub mod packets;
 mod pin;
 mod registers;
 mod resets;

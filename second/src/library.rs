@@ -1,5 +1,5 @@
 //! The proved library as a model to compare with: its fields by the names of `fields::FIELDS`, its `observe`, of a chip and
-//! of a desk; its lessons; its packets.
+//! of a desk; its lessons.
 
 use crate::ffi::{Chip, Desk, Firmware, Ring};
 use crate::fields::FIELDS;
@@ -143,7 +143,6 @@ mod linked {
     use crate::compare::{Given, Other};
     use crate::compare_classes::OtherClassroom;
     use crate::compare_lessons::{OtherLessons, Played};
-    use crate::compare_packets::OtherPackets;
     use crate::ffi::Linked;
     use crate::lesson::LessonAnswer;
     use crate::runs::{Call, Parts};
@@ -258,24 +257,6 @@ mod linked {
 
         fn elapsed(&self, from: u32, to: u32) -> u32 {
             ffi::elapsed(from, to)
-        }
-    }
-
-    impl OtherPackets for Library {
-        fn next_item(&self, run: &[u8], at: usize) -> ffi::Item {
-            ffi::next_item(run, at)
-        }
-
-        fn write_packets(&self, event: &Event, payload: &[u8], packets: &mut [u8]) -> ffi::PacketsAnswer {
-            ffi::write_packets(event, payload, packets)
-        }
-
-        fn crc16(&self, bytes: &[u8]) -> u16 {
-            ffi::crc16(bytes)
-        }
-
-        fn crc5(&self, bits: u16) -> u8 {
-            ffi::crc5(bits)
         }
     }
 }

@@ -9,8 +9,6 @@ pub const ROUNDS: usize = 25;
 pub const CALLS: u32 = 20_000;
 /// Lessons played in one round.
 pub const REPLAYS: u32 = 400;
-/// Runs of packets read in one round.
-pub const READS: u32 = 100;
 
 /// Nanoseconds a call. Each answer counts as used; a caller reads its record anew for each call (`black_box`).
 pub fn time<T>(call: impl FnMut() -> T) -> f64 {
@@ -20,11 +18,6 @@ pub fn time<T>(call: impl FnMut() -> T) -> f64 {
 /// Nanoseconds a replay.
 pub fn time_replay<T>(replay: impl FnMut() -> T) -> f64 {
     time_each(REPLAYS, replay)
-}
-
-/// Nanoseconds a run of packets.
-pub fn time_read<T>(read: impl FnMut() -> T) -> f64 {
-    time_each(READS, read)
 }
 
 fn time_each<T>(calls: u32, mut call: impl FnMut() -> T) -> f64 {

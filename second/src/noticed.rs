@@ -3,8 +3,7 @@
 use crate::compare::{compare, Other, Second};
 use crate::compare_classes::{compare_classes, OtherClassroom};
 use crate::compare_lessons::{compare_trial, OtherLessons};
-use crate::compare_packets::{compare_packets, OtherPackets};
-use crate::flips::{Flip, BOARD, CLASSROOM, LESSONS, PACKETS};
+use crate::flips::{BOARD, CLASSROOM, LESSONS};
 use crate::runs::*;
 
 /// How many calls of a stream of lists are played until the models differ.
@@ -83,28 +82,6 @@ pub fn unnoticed_lesson_flips<R: OtherLessons>(reference: &R) -> Vec<&'static st
         let tables = lesson_tables().position(differs);
         println!("{text:<60}{:>8}{:>8}", show(random), show(tables));
         if random.is_none() {
-            missed.push(*text);
-        }
-    }
-    missed
-}
-
-/// Flips of an event's refusals, which are those of writing its packets too.
-const EVENT_REFUSALS: [Flip; 4] = [Flip::SetupIsSix, Flip::AddressFirst, Flip::FoundIsRoom, Flip::FoundByte];
-
-/// Prints the table of the packets' flips; those that the random trials or the tables do not notice.
-pub fn unnoticed_packet_flips<R: OtherPackets>(reference: &R) -> Vec<&'static str> {
-    let show = |n: Option<usize>| n.map_or("-".to_string(), |n| (n + 1).to_string());
-    let mut missed = Vec::new();
-    println!("{:<60}{:>8}{:>8}", "trials until noticed by", "random", "tables");
-    let shared = BOARD.iter().filter(|(flip, _)| EVENT_REFUSALS.contains(flip));
-    for (flip, text) in PACKETS.iter().chain(shared) {
-        let flipped = Second { flip: Some(*flip) };
-        let differs = |trial: PacketTrial| compare_packets(reference, &flipped, &trial).is_some();
-        let random = (0..4000).map(packet_trial).position(differs);
-        let tables = packet_tables().position(differs);
-        println!("{text:<60}{:>8}{:>8}", show(random), show(tables));
-        if random.is_none() || tables.is_none() {
             missed.push(*text);
         }
     }

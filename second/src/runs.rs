@@ -1,5 +1,5 @@
 //! Lists of calls for both models: random walks, built states, requests, refusals, records by pokes, whole tables; of orders
-//! to a classroom; lessons; and runs of packets.
+//! to a classroom; and lessons.
 
 mod built;
 mod bursts;
@@ -8,8 +8,6 @@ mod damages;
 mod enumeration;
 mod lesson_tables;
 mod lessons;
-mod packet_tables;
-mod packets;
 mod parts;
 mod recipe;
 mod records;
@@ -26,9 +24,6 @@ pub use damages::{all_damages, damaged};
 pub use enumeration::{enumeration, request_pairs};
 pub use lesson_tables::{lesson_tables, small_lessons};
 pub use lessons::{file_of, lesson, lesson_trial, size_of, sized, timed, Parts, Timed, Trial};
-pub use packet_tables::{packet_tables, small_runs};
-pub use packets::{conversation, data_of, framed, packet_recipe, packet_trial, token_of, written_transaction};
-pub use packets::{PacketTrial, Transaction, KNOWN_PIDS, OTHER_PIDS};
 pub use parts::*;
 pub use recipe::recipe;
 pub use records::{sound_record, unsound_record};

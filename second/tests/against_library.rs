@@ -1,6 +1,5 @@
 //! The second model against the proved library (libcapi.a): every answer, every lent byte, everything observable.
-//! A difference is printed as a console script. `COMPARE_SEED` (decimal), `COMPARE_CALLS`, `COMPARE_LESSONS` and
-//! `COMPARE_PACKETS` choose other runs.
+//! A difference is printed as a console script. `COMPARE_SEED` (decimal), `COMPARE_CALLS` and `COMPARE_LESSONS` choose other runs.
 
 #[cfg(not(capi))]
 #[test]
@@ -13,11 +12,10 @@ mod linked {
     use second::compare::{compare, shortest, Second};
     use second::compare_classes::{compare_classes, shortest_class, told_at};
     use second::compare_lessons::{compare_trial, shortest_trial, OtherLessons};
-    use second::compare_packets::{compare_packets, read_back, shortest_run, written_run, OtherPackets};
     use second::ffi::Linked;
     use second::lesson::{self, LessonAnswer};
     use second::library::Library;
-    use second::noticed::{unnoticed_class_flips, unnoticed_flips, unnoticed_lesson_flips, unnoticed_packet_flips};
+    use second::noticed::{unnoticed_class_flips, unnoticed_flips, unnoticed_lesson_flips};
     use second::runs::*;
     use second::script::script;
     use second::{ffi, firmware_answer, Endpoints, Firmware, FirmwareAnswer};
@@ -224,62 +222,6 @@ mod linked {
     fn every_flip_of_lessons_is_noticed() {
         let missed = unnoticed_lesson_flips(&Library);
         assert!(missed.is_empty(), "not noticed by the random trials: {missed:?}");
-    }
-
-    /// A trial on both.
-    fn agree_on_packets(what: &str, trial: &PacketTrial) {
-        if compare_packets(&Library, &RIGHT, trial).is_some() {
-            let (short, difference) = shortest_run(&Library, &RIGHT, trial).expect("it differs");
-            panic!("{what} (library against second model) differs in {difference}\n{short:02X?}");
-        }
-    }
-
-    /// Random runs of packets, good and bad, and places in them: every item. Random events with each room: every answer and every
-    /// lent byte, and what is written read back. Bytes and bits: the check fields.
-    #[test]
-    fn packets() {
-        let trials = number("COMPARE_PACKETS", 50_000);
-        for seed in (0..trials).map(|n| seed().wrapping_add(n)) {
-            agree_on_packets(&format!("packets, seed {seed}"), &packet_trial(seed));
-        }
-        println!("packets: {trials} trials agree");
-    }
-
-    /// Small runs with each bit turned, each cut and each place; every PID with every length, every token, every order of a few
-    /// packets; every code, length, address and endpoint of an event; CRC5 of every number.
-    #[test]
-    fn packet_tables_agree() {
-        let trials = packet_tables().map(|trial| agree_on_packets("packet tables", &trial)).count();
-        println!("packet tables: {trials} trials agree");
-    }
-
-    /// CRC16 of every length up to 300: the library's table against the bits.
-    #[test]
-    fn crc16_of_every_length() {
-        let rng = &mut Rng::new(seed());
-        for n in 0..=300 {
-            for _ in 0..20 {
-                agree_on_packets(&format!("{n} bytes"), &PacketTrial::Bytes(rng.bytes(n)));
-            }
-        }
-        assert_eq!((Library.crc16(&[]), Library.crc16(&[1]), Library.crc5(0), Library.crc5(1)), (0, 0x7F81, 0x02, 0x1D));
-    }
-
-    /// What the library writes for events that it does not refuse, it reads back as those events.
-    #[test]
-    fn packets_read_back() {
-        let rng = &mut Rng::new(seed());
-        for number in 0..5000 {
-            let n = rng.below(20);
-            let list: Vec<Transaction> = (0..n).map(|_| written_transaction(rng)).collect();
-            assert_eq!(read_back(&Library, &written_run(&Library, &list)), Some(list), "list {number}");
-        }
-    }
-
-    #[test]
-    fn every_flip_of_packets_is_noticed() {
-        let missed = unnoticed_packet_flips(&Library);
-        assert!(missed.is_empty(), "not noticed by the random trials or the tables: {missed:?}");
     }
 
     /// The library is the reference: each flip of the second model is a difference from it.

@@ -45,16 +45,16 @@ pub refusal_of_law : (c : Chip) (k : Call) → event_tells (event_reply_of (answ
 unfolding answer_of
 refusal_of_law c k = checked_refusal c k (checked max3420e c k)
 
-pub pid_of_law : (a : Answer) → event_pid (event_reply_of a) ≡ answer_pid a
-pid_of_law (refused r) = refl
-pid_of_law (answered (transferred vs)) = refl
-pid_of_law (answered done) = refl
-pid_of_law (answered silence) = refl
-pid_of_law (answered ack) = refl
-pid_of_law (answered nak) = refl
-pid_of_law (answered stall) = refl
-pid_of_law (answered (sent true vs)) = refl
-pid_of_law (answered (sent false vs)) = refl
+pub pid_of : (a : Answer) → event_pid (event_reply_of a) ≡ answer_pid a
+pid_of (refused r) = refl
+pid_of (answered (transferred vs)) = refl
+pid_of (answered done) = refl
+pid_of (answered silence) = refl
+pid_of (answered ack) = refl
+pid_of (answered nak) = refl
+pid_of (answered stall) = refl
+pid_of (answered (sent true vs)) = refl
+pid_of (answered (sent false vs)) = refl
 
 pub count_of : (a : Answer) → event_count (event_reply_of a) ≡ answer_count a
 count_of (refused r) = refl
@@ -71,7 +71,7 @@ pub numbers : (c : Chip) (k : Call) (r : EventAnswer) → r ≡ call_answer c k
     → (event_tells r.reply ≡ checked max3420e c k)
     × (event_pid r.reply ≡ answer_pid (answer_of max3420e c k))
     × (event_count r.reply ≡ answer_count (answer_of max3420e c k))
-numbers c k r e = rw e (refusal_of_law c k, pid_of_law (answer_of max3420e c k), count_of (answer_of max3420e c k))
+numbers c k r e = rw e (refusal_of_law c k, pid_of (answer_of max3420e c k), count_of (answer_of max3420e c k))
 
 -- ---- a call that is refused, and one that is not
 

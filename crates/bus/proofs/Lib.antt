@@ -1,3 +1,4 @@
 pub mod Events
+pub mod Accepted
 pub mod Replies
 pub mod Call

@@ -2,7 +2,7 @@
 // which rule it goes by; each way makes its answer and returns it.
 ghost use Rattle.std.specs.Prelude.{◌≡◌, true, List, ℕ, ◌≤◌, ◌<◌, length};
 ghost use Rattle.refusal.specs.declared.Checked.TheVariants.{Accepted};
-ghost use Rattle.refusal.specs.Check.{check};
+ghost use Rattle.refusal.specs.Check.{check, checked_number};
 ghost use Rattle.chip.specs.Sound.{sound_chip};
 ghost use Rattle.model.specs.Call.{event_grounds, event as eventCall, checked, answer_of};
 ghost use Rattle.rules.specs.Event.{raise_usbirq, stable_event, vbus_on_event, vbus_off_event, pins_event};
@@ -148,6 +148,34 @@ fn take_in(chip: Chip, event: Event, reply: &mut [u8]) -> EventAnswer
 
 // ---- the call
 
+// The number of refusal: 1, 4, 5, 6, 8, 7, in this order, or 0. A number, since a refusal with its length would go with the record
+// through every way of an accepted event.
+fn check_event(sound: bool, event: Event, count: usize, room: usize) -> u8
+    ensures { result ≡ checked_number (check (event_grounds sound event count room)) }
+{
+    let code = event.code;
+    let far = (127 < event.address) | (15 < event.endpoint.0);
+    if !sound {
+        return 1;
+    }
+    if (code == 12) & (room < 64) {
+        return 4;
+    }
+    if (code == 0) | (12 < code) {
+        return 5;
+    }
+    if (code == 11) & (64 < count) {
+        return 6;
+    }
+    if (code == 10) & (count != 8) {
+        return 8;
+    }
+    if ((code == 10) | (code == 11) | (code == 12)) & far {
+        return 7;
+    }
+    0
+}
+
 // An event that is not refused.
 fn accept(chip: Chip, event: Event, payload: &[u8], reply: &mut [u8]) -> EventAnswer
     requires { check (event_grounds (sound_chip chip) event (length payload.now) (length reply.old)) ≡ Accepted }
@@ -181,7 +209,7 @@ pub fn event(chip: Chip, event: Event, payload: &[u8], reply: &mut [u8]) -> Even
         × (event_count result.reply
         ≡ answer_count (answer_of max3420e chip (eventCall event payload.now (length reply.old)))) }
 {
-    let number = event_check::check_event(chip.is_sound(), event, payload.len(), reply.len());
+    let number = check_event(chip.is_sound(), event, payload.len(), reply.len());
     if number != 0 {
         let refusal = Refusal::numbered(number, payload.len());
         return answer_with(chip, EventReply::Refused(refusal));

@@ -9,7 +9,7 @@ ghost use Rattle.spi.specs.Transfer.{transfer_answer};
 ghost use Rattle.bus.specs.EventCall.{event_answer, event_buffer};
 ghost use Rattle.board.specs.Board.{board_step, step_checked, step_buffer};
 ghost use Rattle.flat.specs.Answer.{flat_transfer, flat_event, flat_step, flat_request};
-ghost use Rattle.flat_arguments.specs.Arguments.{event_of};
+ghost use Rattle.capi.specs.Arguments.{event_of};
 
 use board::Board;
 use chip::Chip;
@@ -17,8 +17,31 @@ use flat::{
     FlatAnswer, FlatBoardAnswer, FlatRequestAnswer, flat_event, flat_request, flat_step,
     flat_transfer,
 };
-use flat_arguments::event_of;
+use model::{EndpointNumber, Event};
 use request::Firmware;
+
+// A mark that is not 0 is yes.
+pub fn event_of(
+    code: u8,
+    pins: u8,
+    address: u8,
+    endpoint: u8,
+    damaged: u8,
+    data1: u8,
+    acknowledged: u8,
+) -> Event
+    ensures { result ≡ event_of code pins address endpoint damaged data1 acknowledged }
+{
+    Event {
+        code,
+        pins,
+        address,
+        endpoint: EndpointNumber(endpoint),
+        damaged: damaged != 0,
+        data1: data1 != 0,
+        acknowledged: acknowledged != 0,
+    }
+}
 
 // ---- a chip
 

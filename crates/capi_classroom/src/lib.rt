@@ -2,14 +2,14 @@
 // archive of its own: the calls on a chip alone stay inlined in libcapi.a (docs/BENCHMARK.md).
 ghost use Rattle.std.specs.Prelude.{◌≡◌, length};
 ghost use Rattle.model.specs.Call.{Call};
-ghost use Rattle.flat_arguments.specs.Arguments.{event_of};
+ghost use Rattle.capi.specs.Arguments.{event_of};
 ghost use Rattle.classroom_record.specs.Record.{all_closed};
 ghost use Rattle.classroom.specs.Calls.{open_answer, close_answer, desk_transfer, transfer_lent, desk_event, event_lent, desk_step, step_lent};
 ghost use Rattle.flat_classroom.specs.Answer.{flat_teacher, flat_desk_transfer, flat_desk_event, flat_desk_step};
 ghost use Rattle.capi_classroom.specs.Arguments.{desk_number};
 
+use capi::event_of;
 use classroom::{Classroom, DeskNumber};
-use flat_arguments::event_of;
 use flat_classroom::{
     FlatDeskAnswer, FlatDeskStep, FlatTeacherAnswer, flat_desk_event, flat_desk_step,
     flat_desk_transfer, flat_teacher,

@@ -1,3 +1,4 @@
+pub mod Append
 pub mod Here
 pub mod Refusals
 pub mod Examples

@@ -12,7 +12,6 @@ use Rattle.refusal.specs.declared.Checked.{Checked}
 use Rattle.refusal.specs.declared.Checked.TheVariants.{Refused}
 use Rattle.refusal.specs.Check.{check}
 use Rattle.refusal.proofs.Check.{in_order, refusal_at, check_exactly}
-use Rattle.refusal.proofs.Append.{then_found, check_append}
 use Rattle.chip.specs.Sound.{sound_chip}
 use Rattle.request.specs.Record.{sound_firmware}
 use Rattle.model.specs.Call.{Call, transfer, event, grounds}
@@ -24,6 +23,7 @@ use Rattle.classroom_record.specs.declared.DeskNumber.{DeskNumber}
 use Rattle.classroom_record.specs.declared.Classroom.{Classroom}
 use Rattle.classroom_record.specs.Record.{desk_at, key_in_use}
 use Rattle.classroom.specs.Calls.{opening_grounds, closing_grounds, calling_grounds, opening_checked, closing_checked, calling_checked, board_at}
+use Rattle.classroom.proofs.Append.{then_found, check_append}
 
 -- ---- the teacher's calls
 

@@ -1,6 +1,5 @@
-// The console, or the console of a classroom, on a file that is named or on standard input; a lesson that is played or recorded; the packets
-// of an analyser, listed and played or made a capture: `max3420e [FILE]`, `max3420e classroom [FILE]`, `max3420e replay FILE`,
-// `max3420e record SCRIPT FILE`, `max3420e packets FILE [SCRIPT]`, `max3420e packets --pcap FILE OUT`.
+// The console, or the console of a classroom, on a file that is named or on standard input; or a lesson that is played or recorded:
+// `max3420e [FILE]`, `max3420e classroom [FILE]`, `max3420e replay FILE`, `max3420e record SCRIPT FILE`.
 use console::Console;
 use roster::Roster;
 use session::Session;
@@ -12,22 +11,12 @@ enum Asked {
     Classroom,
     Replay,
     Record,
-    Packets,
 }
 
-// What two files are named for: a script and its lesson, a run of packets and a script, a run and its capture.
-#[derive(Drop)]
-enum Pair {
-    Lesson,
-    Run,
-    Capture,
-}
-
-const USAGE: [u8; 316] =
+const USAGE: [u8; 218] =
     *b"max3420e: one file at most: max3420e [FILE], or max3420e classroom [FILE]; \
     a lesson: max3420e replay FILE, or max3420e record SCRIPT FILE; \
-    packets: max3420e packets FILE [SCRIPT], or max3420e packets --pcap FILE OUT; \
-    a file called classroom, replay, record or packets is ./classroom, ./replay, ./record or ./packets\n";
+    a file called classroom, replay or record is ./classroom, ./replay or ./record\n";
 
 // What stands on the page before the first line, where a person types.
 fn greet(session: Session, taught: bool, page: &mut [u8]) -> Session {
@@ -139,104 +128,56 @@ fn run_console(place: usize, taught: bool) {
     tell_usage();
 }
 
-// Plays the lesson, or the packets, of the file that the second argument names.
-fn play(packets: bool) {
+fn replay() {
     let mut path = io::buffer();
+    if os::arg_count() != 3 {
+        tell_usage();
+        return;
+    }
     let length = os::arg(2, &mut path);
     if os::errno() != 0 {
         tell_name();
         return;
     }
-    if packets {
-        packet_files::play(&path[..length]);
-        return;
-    }
     lesson_files::replay(&path[..length]);
 }
 
-fn use_pair(first: &[u8], second: &[u8], pair: Pair) {
-    match pair {
-        Pair::Lesson => lesson_files::record(first, second),
-        Pair::Run => packet_files::play_after(first, second),
-        Pair::Capture => run_files::write_pcap(first, second),
-    }
-}
-
-fn take_second(first: &[u8], argument: usize, pair: Pair) {
+// The script that the second argument names is recorded in the file that the third does.
+fn record_script(script: &[u8]) {
     let mut path = io::buffer();
-    let length = os::arg(argument, &mut path);
+    let length = os::arg(3, &mut path);
     if os::errno() != 0 {
         tell_name();
         return;
     }
-    use_pair(first, &path[..length], pair);
-}
-
-// Uses the files that an argument and the next one name.
-fn take_pair(first: usize, second: usize, pair: Pair) {
-    let mut path = io::buffer();
-    let length = os::arg(first, &mut path);
-    if os::errno() != 0 {
-        tell_name();
-        return;
-    }
-    take_second(&path[..length], second, pair);
-}
-
-fn is_word(argument: usize, name: &[u8]) -> bool {
-    let mut word = io::buffer();
-    let length = os::arg(argument, &mut word);
-    words::is_name(&word[..length], name)
-}
-
-fn replay() {
-    if os::arg_count() != 3 {
-        tell_usage();
-        return;
-    }
-    play(false);
+    lesson_files::record(script, &path[..length]);
 }
 
 fn record() {
+    let mut script = io::buffer();
     if os::arg_count() != 4 {
         tell_usage();
         return;
     }
-    take_pair(2, 3, Pair::Lesson);
-}
-
-fn capture() {
-    if os::arg_count() != 5 {
-        tell_usage();
+    let length = os::arg(2, &mut script);
+    if os::errno() != 0 {
+        tell_name();
         return;
     }
-    take_pair(3, 4, Pair::Capture);
-}
-
-fn packets() {
-    if is_word(2, b"--pcap") {
-        capture();
-        return;
-    }
-    match os::arg_count() {
-        3 => play(true),
-        4 => take_pair(2, 3, Pair::Run),
-        _ => tell_usage(),
-    }
+    record_script(&script[..length]);
 }
 
 fn read_asked() -> Asked {
-    if is_word(1, b"classroom") {
+    let mut word = io::buffer();
+    let length = os::arg(1, &mut word);
+    if words::is_name(&word[..length], b"classroom") {
         return Asked::Classroom;
     }
-    if is_word(1, b"replay") {
+    if words::is_name(&word[..length], b"replay") {
         return Asked::Replay;
     }
-    if is_word(1, b"record") {
+    if words::is_name(&word[..length], b"record") {
         return Asked::Record;
-    }
-    if is_word(1, b"packets") {
-        return Asked::Packets;
     }
     Asked::Console
 }
@@ -247,6 +188,5 @@ fn main() {
         Asked::Classroom => run_console(2, true),
         Asked::Replay => replay(),
         Asked::Record => record(),
-        Asked::Packets => packets(),
     }
 }

@@ -25,8 +25,8 @@ use Rattle.rules.specs.Event.{max3420e}
 use Rattle.spi.specs.Transfer.{transfer_reply_of, transfer_refusal, transfer_count}
 use Rattle.event_answer.specs.Answer.{event_reply}
 use Rattle.bus.specs.EventCall.{event_outcome, event_reply_of, event_count, answer_pid}
-use Rattle.event_check.proofs.Accepted.{accepted_sound}
-use Rattle.bus.proofs.Call.{refusal_of_law, pid_of_law}
+use Rattle.bus.proofs.Accepted.{accepted_sound}
+use Rattle.bus.proofs.Call.{refusal_of_law, pid_of}
 use Rattle.bus.proofs.Replies.{Packet, event_packet}
 use Rattle.event_body.specs.Body.{event_of, payload_of}
 use Rattle.flat.specs.Answer.{flat_transfer, flat_event}
@@ -82,7 +82,7 @@ call_numbered c (event e vs room) =
     let k = event e vs room in
     record {
       refusal = ap checked_number (refusal_of_law c k) ∙ checked_refusal c k (checked max3420e c k);
-      pid = pid_of_law (answer_of max3420e c k);
+      pid = pid_of (answer_of max3420e c k);
       count = event_counted c e vs room (checked max3420e c k) (accepted_packet c e vs room);
     }
 

@@ -4,7 +4,7 @@ use mathlib.Core.List.{List, ◌++◌, append_assoc, append-nil}
 use Prim.Native.Nat.{ℕ, ◌+◌, ◌-◌, ◌≤◌}
 use native.Mathlib.Omega.{arith}
 use lib.ListN.{length, take, drop, length-drop, drop_of_length-le}
-use lib.Seq.{sets, sets-eq, take-length, take_all, drop-drop}
+use lib.Seq.{sets, sets_eq, take-length, take_all, drop-drop}
 use borrow.Rule.Slice.PartMut.{put_mid}
 
 -- copied to the front of what a list has from place a on, vs is stored there element by element
@@ -19,7 +19,7 @@ copied_in xs vs a n long fits =
       drop_of_length-le (drop a xs) rest,
       drop-drop (length vs) a xs,
       append-nil,
-      sets-eq vs xs a within,
+      sets_eq vs xs a within,
     )
     (sym (append_assoc (take a xs) vs (drop (a + length vs) xs)))
 

@@ -1,10 +1,8 @@
 //! Nanoseconds a call of the proved library and of this model, and their ratio, as a Markdown table.
 //! Both take their record by value and hand it back, as a user writes it, over the C boundary: a record that a C function takes by
 //! value is copied to the stack, which a Rust function spares. The last column is this model by a Rust call. Run it as `COMMAND` says.
-//! A second table has lessons of 1, 16 and 64 KiB, played from power-on; a third runs of packets of 1 and 64 KiB, read item by item,
-//! an event's packets written, and a CRC16.
-//! Words after ` -- ` choose the rows whose name has one of them in it; `-- burst` is all bursts of R0 to R4, `-- replay` the lessons,
-//! `-- packets` the third table.
+//! A second table has lessons of 1, 16 and 64 KiB, played from power-on.
+//! Words after ` -- ` choose the rows whose name has one of them in it; `-- burst` is all bursts of R0 to R4, `-- replay` the lessons.
 //!
 //! With BEFORE_DIR=FOLDER before the command, FOLDER having an earlier commit's libcapi.a (`rt staticlib capi` there), that
 //! library is measured in the same run, in turn with the others: its times and its ratio stand before the library's.
@@ -296,7 +294,6 @@ mod measured {
         println!();
         let lessons = [1, 16, 64].map(|kib| (format!("replay of {kib} KiB"), recipe(1024 * kib)));
         replays::print_table(lessons.iter().filter(|(name, _)| chosen(name)));
-        packet_rows::print_table(chosen);
     }
 
     /// Lessons by `runs::recipe`.
@@ -353,122 +350,6 @@ mod measured {
             println!("| lesson | entries | library, ns | second model, ns | ratio | library, ns a byte | second model, ns a byte |");
             println!("|---|---:|---:|---:|---:|---:|---:|");
             lessons.for_each(|(name, file)| print_rows(name, file));
-            println!();
-        }
-    }
-
-    /// Packets by `runs::packet_recipe`; this model works out its check fields bit by bit.
-    mod packet_rows {
-        use super::*;
-        use second::bus::OUT_EVENT;
-        use second::compare_packets::{items, read_back, OtherPackets};
-        use second::measure::{time_read, READS};
-        use second::packets::{self, Found, Item, PacketsAnswer};
-
-        /// This model's as they stand in a user's program. The slices are Rust's; no C program calls them.
-        #[allow(improper_ctypes_definitions)]
-        mod by_c {
-            use super::*;
-
-            #[inline(never)]
-            pub extern "C" fn next_item(run: &[u8], at: usize) -> Item {
-                packets::next_item(run, at)
-            }
-
-            #[inline(never)]
-            pub extern "C" fn write_packets(event: &Event, payload: &[u8], output: &mut [u8]) -> PacketsAnswer {
-                packets::write_packets(event, payload, output)
-            }
-
-            #[inline(never)]
-            pub extern "C" fn crc16(bytes: &[u8]) -> u16 {
-                packets::crc16(bytes)
-            }
-        }
-
-        /// All items of a run: how many there are.
-        fn read_library(run: &[u8]) -> usize {
-            let (mut at, mut count) = (0, 0);
-            loop {
-                let item = ffi::next_item(black_box(run), at);
-                (at, count) = (item.next, count + 1);
-                if item.found == 0 {
-                    return count;
-                }
-            }
-        }
-
-        fn read_second(run: &[u8]) -> usize {
-            let (mut at, mut count) = (0, 0);
-            loop {
-                let item = by_c::next_item(black_box(run), at);
-                (at, count) = (item.next, count + 1);
-                if item.found == Found::End {
-                    return count;
-                }
-            }
-        }
-
-        /// The best of all rounds of both, in turn; `size` is the bytes that are read or written.
-        fn print_row(name: &str, size: usize, mut round: impl FnMut() -> (f64, f64)) {
-            let (mut library, mut second) = (f64::INFINITY, f64::INFINITY);
-            for _ in 0..ROUNDS {
-                let (theirs, ours) = round();
-                (library, second) = (library.min(theirs), second.min(ours));
-            }
-            let (each, other) = (library / size as f64, second / size as f64);
-            let ratio = library / second;
-            println!("| {name} | {size} | {library:.0} | {second:.0} | {ratio:.2} | {each:.2} | {other:.2} |");
-        }
-
-        fn print_reading(name: &str, run: &[u8]) {
-            let model = Second::default();
-            assert!(items(&Library, run, 0).eq(items(&model, run, 0)), "{name}");
-            assert_eq!(read_library(run), read_second(run), "{name}");
-            print_row(name, run.len(), || (time_read(|| read_library(run)), time_read(|| read_second(run))));
-        }
-
-        fn print_writing(name: &str) {
-            let event = Event { code: OUT_EVENT, address: 5, endpoint: 1, ..Event::default() };
-            let (payload, output) = (full(), &mut [0; 80][..]);
-            let count = Library.write_packets(&event, &payload, output).count;
-            assert!(
-                read_back(&Second::default(), &output[..count]).is_some_and(|list| list[0].payload == payload),
-                "{name}"
-            );
-            print_row(name, count, || {
-                let library = time(|| ffi::write_packets(black_box(&event), black_box(&payload), black_box(&mut *output)));
-                let second = time(|| by_c::write_packets(black_box(&event), black_box(&payload), black_box(&mut *output)));
-                (library, second)
-            });
-        }
-
-        fn print_check(name: &str) {
-            let bytes = full();
-            assert_eq!(ffi::crc16(&bytes), packets::crc16(&bytes), "{name}");
-            print_row(name, bytes.len(), || {
-                (time(|| ffi::crc16(black_box(&bytes))), time(|| by_c::crc16(black_box(&bytes))))
-            });
-        }
-
-        pub fn print_table(chosen: impl Fn(&str) -> bool) {
-            let runs = [1, 64].map(|kib| (format!("packets of {kib} KiB read"), packet_recipe(1024 * kib)));
-            let (writing, check) = ("packets of an OUT of 64 written", "packets: CRC16 of 64 bytes");
-            if !runs.iter().any(|(name, _)| chosen(name)) && !chosen(writing) && !chosen(check) {
-                return;
-            }
-            println!("Packets: rounds of {READS} runs read to their end; a byte is one of the run, or of what is written or checked.\n");
-            println!("| packets | bytes | library, ns | second model, ns | ratio | library, ns a byte | second model, ns a byte |");
-            println!("|---|---:|---:|---:|---:|---:|---:|");
-            for (name, run) in runs.iter().filter(|(name, _)| chosen(name)) {
-                print_reading(name, run);
-            }
-            if chosen(writing) {
-                print_writing(writing);
-            }
-            if chosen(check) {
-                print_check(check);
-            }
         }
     }
 }

@@ -6,7 +6,7 @@ use Rattle.event_answer.specs.Answer.{outcome_answer, outcome_buffer}
 use Rattle.model.specs.Reply.{Outcome, Reply}
 use Rattle.chip.specs.Sound.{sound_chip}
 use Rattle.chip.specs.declared.Chip.{Chip}
-use Rattle.event_check.proofs.Accepted.{accepted_sound, accepted_room, accepted_code, accepted_out, accepted_setup}
+use Rattle.bus.proofs.Accepted.{accepted_sound, accepted_room, accepted_code, accepted_out, accepted_setup}
 use Rattle.bus.proofs.Replies.{quiet_buffer}
 use Rattle.bus.proofs.Events.{rule_of, below_ten}
 use Rattle.bus.proofs.accept.Statement.{statement}

@@ -4,7 +4,7 @@ use lib.ListN.{length}
 use borrow.Author.Rules.{rules}
 use Rattle.chip.specs.Sound.{sound_chip}
 use Rattle.model.specs.Call.{event as eventCall}
-use Rattle.event_check.proofs.Accepted.{number_accepts, number_refuses}
+use Rattle.bus.proofs.Accepted.{number_accepts, number_refuses}
 use Rattle.bus.proofs.Call.{numbers, refused_answer, accepted_answer}
 use Rattle.bus.proofs.event.Statement.{statement}
 use Rattle.bus.proofs.event.Tie as tie

@@ -1,4 +1,0 @@
-pub mod Bit
-pub mod Clauses
-pub mod First
-pub mod Flag
