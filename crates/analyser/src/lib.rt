@@ -1,4 +1,6 @@
 // The analyser's packets taken in (document 02, Ask 6): the next event of a run, or the next bad packet, or the end; and where to go on.
+#![tactic(auto)]
+
 ghost use Rattle.std.specs.Prelude.{◌≡◌, ◌+◌, ◌≤◌, ◌<◌, length};
 ghost use Rattle.packet.specs.Packet.{packets_at};
 ghost use Rattle.analyser.specs.Group.{is_bad, begins, takes, empty_group, joined, group_from, group_of, left_over};
@@ -10,7 +12,7 @@ use packet::{Judgement, Packet, PacketFault};
 
 // What follows a token: whether a packet is taken, whether it is a DATA1, where its data stand; how many packets there are, and the place
 // behind them.
-#[derive(Drop)]
+#[derive(Clone, Copy)]
 pub struct Group {
     pub found: bool,
     pub data1: bool,
@@ -20,7 +22,7 @@ pub struct Group {
     pub next: usize,
 }
 
-#[derive(Drop)]
+#[derive(Clone, Copy)]
 pub enum Found {
     // Nothing more: the run ends.
     End,
@@ -28,7 +30,7 @@ pub enum Found {
     Bad(PacketFault),
 }
 
-#[derive(Drop)]
+#[derive(Clone, Copy)]
 pub struct Item {
     pub found: Found,
     // Where the length of the event's token, or of the bad packet, stands; at the end the place behind the last packet.

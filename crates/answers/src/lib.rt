@@ -1,4 +1,6 @@
 // Answers as text: the line's number, the result, the pin.
+#![tactic(auto)]
+
 ghost use Rattle.std.specs.Prelude.{◌≤◌, length};
 
 use board::StepReply;

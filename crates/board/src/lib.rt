@@ -1,4 +1,6 @@
 // The board: chip and firmware together (document 01, "The firmware", last paragraph). A board call is a list of chip calls.
+#![tactic(auto)]
+
 ghost use Rattle.std.specs.Prelude.{◌≡◌, true, ◌≤◌, length};
 ghost use Rattle.refusal.specs.Check.{unless_refused};
 ghost use Rattle.chip.specs.Sound.{sound_chip};
@@ -23,7 +25,7 @@ use refusal::Refusal;
 use spi::TransferReply;
 
 // Why a step is refused; nothing to serve; or what the firmware replied.
-#[derive(Drop)]
+#[derive(Clone, Copy)]
 pub enum StepReply {
     Refused(Refusal),
     Idle,
@@ -32,21 +34,21 @@ pub enum StepReply {
     Data(u8),
 }
 
-#[derive(Drop)]
+#[derive(Clone, Copy)]
 pub struct BoardTransfer {
     pub board: Board,
     pub reply: TransferReply,
     pub pin: Pin,
 }
 
-#[derive(Drop)]
+#[derive(Clone, Copy)]
 pub struct BoardEvent {
     pub board: Board,
     pub reply: EventReply,
     pub pin: Pin,
 }
 
-#[derive(Drop)]
+#[derive(Clone, Copy)]
 pub struct BoardStep {
     pub board: Board,
     pub reply: StepReply,
@@ -54,7 +56,7 @@ pub struct BoardStep {
 }
 
 // Both records after a step that serves a SETUP, and the firmware's reply.
-#[derive(Drop)]
+#[derive(Clone, Copy)]
 struct Served {
     board: Board,
     reply: RequestReply,

@@ -1,4 +1,6 @@
 // The board's records, the chip's and the firmware's: at power-on, when they are sound, and which events put the firmware's back.
+#![tactic(auto)]
+
 ghost use Rattle.std.specs.Prelude.{◌≡◌};
 ghost use Rattle.board_record.specs.Record.{power_on_board, sound_board, is_done, firmware_for};
 
@@ -8,7 +10,7 @@ use firmware::Firmware;
 use model::Event;
 
 #[repr(C)]
-#[derive(Drop)]
+#[derive(Clone, Copy)]
 pub struct Board {
     pub chip: Chip,
     pub firmware: Firmware,

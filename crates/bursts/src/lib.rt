@@ -1,5 +1,7 @@
 // The data bytes of a burst at R0 to R4, on the endpoint that the register belongs to (document 01, "Writes" and "Reads"). The buffer
 // is taken out and put back once for a burst, not for each byte.
+#![tactic(auto)]
+
 ghost use Rattle.std.specs.Prelude.{◌≡◌, true, false, ◌+◌, ◌<◌, ◌≤◌, min, length, get_or};
 ghost use Rattle.bits.specs.Bit.{has};
 ghost use Rattle.ring.specs.Ring.{oldest_count};
@@ -40,7 +42,7 @@ fn copy_fitting(buffers: &mut [u8], start: usize, limit: u8, position: u8, sent:
     let count = sent.len();
     let stored = fitting(limit - position, count);
     let at = start + position as usize;
-    bytes::copy(&sent[0..stored], &mut buffers[at..]);
+    octets::copy(&sent[0..stored], &mut buffers[at..]);
     position + stored as u8
 }
 

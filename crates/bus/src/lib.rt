@@ -1,5 +1,7 @@
 // The bus side (document 01, "The bus side"): the twelve events, and the public call. Whether a call is refused is decided first, then
 // which rule it goes by; each way makes its answer and returns it.
+#![tactic(auto)]
+
 ghost use Rattle.std.specs.Prelude.{◌≡◌, true, List, ℕ, ◌≤◌, ◌<◌, length};
 ghost use Rattle.refusal.specs.declared.Checked.TheVariants.{Accepted};
 ghost use Rattle.refusal.specs.Check.{check, checked_number};

@@ -1,5 +1,7 @@
 // The C interface (include/max3420e.h). C programs hold the model's own records, so a function promises what the inner one does, its
 // answer flattened; a flag that is neither 0 nor 1 makes a record unsound, and is refused as such.
+#![tactic(auto)]
+
 ghost use Rattle.std.specs.Prelude.{◌≡◌, length};
 ghost use Rattle.chip.specs.Record.{power_on_chip};
 ghost use Rattle.model.specs.Call.{Call, answer_of, buffer_after};

@@ -1,5 +1,7 @@
 // The C interface of the classroom (include/max3420e.h): a function promises what the inner one does, its answer flattened. It is an
 // archive of its own: the calls on a chip alone stay inlined in libcapi.a (docs/BENCHMARK.md).
+#![tactic(auto)]
+
 ghost use Rattle.std.specs.Prelude.{◌≡◌, length};
 ghost use Rattle.model.specs.Call.{Call};
 ghost use Rattle.capi.specs.Arguments.{event_of};

@@ -1,5 +1,7 @@
 // The C interface of lessons (include/max3420e.h): a function promises what the inner one does, its answer flattened. It is an archive of
 // its own, as that of the classroom: the calls on a chip alone stay inlined in libcapi.a (docs/BENCHMARK.md).
+#![tactic(auto)]
+
 ghost use Rattle.std.specs.Prelude.{◌≡◌, ℕ, length};
 ghost use Rattle.refusal.specs.declared.Checked.TheVariants as checked;
 ghost use Rattle.lesson.specs.Read.{lesson_of};
@@ -16,7 +18,7 @@ use replay::ReplayReply;
 
 // What the check and the writer hand back.
 #[repr(C)]
-#[derive(Drop)]
+#[derive(Clone, Copy)]
 pub struct FlatLessonAnswer {
     pub refusal: u8,
     pub found: usize,
@@ -25,7 +27,7 @@ pub struct FlatLessonAnswer {
 
 // What a replay hands back.
 #[repr(C)]
-#[derive(Drop)]
+#[derive(Clone, Copy)]
 pub struct FlatReplayAnswer {
     pub chip: Chip,
     pub refusal: u8,

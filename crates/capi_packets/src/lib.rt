@@ -1,5 +1,7 @@
 // The C interface of packets (include/max3420e.h): a function promises what the inner one does, its answer flattened. It is an archive of
 // its own, as those of the classroom and of lessons are: the calls on a chip alone stay inlined in libcapi.a (docs/BENCHMARK.md).
+#![tactic(auto)]
+
 ghost use Rattle.std.specs.Prelude.{◌≡◌, length};
 ghost use Rattle.crc.specs.Crc.{crc5_of, crc16_of};
 ghost use Rattle.analyser.specs.Item.{next_item};
@@ -15,7 +17,7 @@ use packet::PacketFault;
 use packet_writer::PacketsReply;
 
 // What an item is found as: 0 the end, 1 an event, with its fields, 2 to 4 a bad packet.
-#[derive(Drop)]
+#[derive(Clone, Copy)]
 pub struct Numbers {
     pub found: u8,
     pub code: u8,
@@ -27,7 +29,7 @@ pub struct Numbers {
 
 // The next item of a run.
 #[repr(C)]
-#[derive(Drop)]
+#[derive(Clone, Copy)]
 pub struct FlatItem {
     pub found: u8,
     pub code: u8,
@@ -44,7 +46,7 @@ pub struct FlatItem {
 
 // What writing out hands back.
 #[repr(C)]
-#[derive(Drop)]
+#[derive(Clone, Copy)]
 pub struct FlatPacketsAnswer {
     pub refusal: u8,
     pub found: usize,

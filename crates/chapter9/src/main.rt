@@ -1,5 +1,7 @@
 // Asks the firmware each request of document 01, not configured and configured, and makes a call for each refusal. Writes
 // each request with its answer.
+#![tactic(auto)]
+
 ghost use Rattle.std.specs.Prelude.{◌≤◌, length};
 ghost use Rattle.firmware.specs.Answer.{request_count};
 

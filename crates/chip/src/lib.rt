@@ -1,4 +1,6 @@
 // The controller's record: its parts, the power-on record, when it is sound, and the INT pin.
+#![tactic(auto)]
+
 ghost use Rattle.std.specs.Prelude.{◌≡◌, cond};
 ghost use Rattle.bits.specs.Flag.{flipped};
 ghost use Rattle.chip.specs.Record.{power_on_registers, power_on_chip};
@@ -13,7 +15,7 @@ use ring::Ring;
 
 // Endpoint 0: one buffer for both directions, and the setup bytes (SUDFIFO).
 #[repr(C)]
-#[derive(Drop)]
+#[derive(Clone, Copy)]
 pub struct Endpoint0 {
     pub bytes: [u8; 64],
     pub setup: [u8; 8],
@@ -32,7 +34,7 @@ pub struct Endpoint0 {
 
 // Endpoint 1 OUT, double-buffered.
 #[repr(C)]
-#[derive(Drop)]
+#[derive(Clone, Copy)]
 pub struct Endpoint1 {
     pub ring: Ring,
     pub readpos: u8,
@@ -41,7 +43,7 @@ pub struct Endpoint1 {
 
 // Endpoint 2 IN, double-buffered.
 #[repr(C)]
-#[derive(Drop)]
+#[derive(Clone, Copy)]
 pub struct Endpoint2 {
     pub ring: Ring,
     // R7, EP2INBC: the count last armed.
@@ -52,7 +54,7 @@ pub struct Endpoint2 {
 
 // Endpoint 3 IN.
 #[repr(C)]
-#[derive(Drop)]
+#[derive(Clone, Copy)]
 pub struct Endpoint3 {
     pub bytes: [u8; 64],
     // R8, EP3INBC: the count last armed.
@@ -64,7 +66,7 @@ pub struct Endpoint3 {
 
 // R9 to R17, R19 and R20, by the maker's names. R18 is constant.
 #[repr(C)]
-#[derive(Drop)]
+#[derive(Clone, Copy)]
 pub struct Registers {
     pub epstalls: u8,
     pub clrtogs: u8,
@@ -81,7 +83,7 @@ pub struct Registers {
 
 // What the chip is supplied with.
 #[repr(C)]
-#[derive(Drop)]
+#[derive(Clone, Copy)]
 pub struct Power {
     // The VBUS comparator's level.
     pub vbus: u8,
@@ -90,7 +92,7 @@ pub struct Power {
 }
 
 #[repr(C)]
-#[derive(Drop)]
+#[derive(Clone, Copy)]
 pub struct Chip {
     pub ep0: Endpoint0,
     pub ep1: Endpoint1,
@@ -101,14 +103,14 @@ pub struct Chip {
 }
 
 // The resting level of the INT pin; `pin_number` gives its value.
-#[derive(Drop)]
+#[derive(Clone, Copy)]
 pub enum Pin {
     Low,
     High,
     Open,
 }
 
-#[derive(Drop)]
+#[derive(Clone, Copy)]
 pub enum PinReply {
     Refused(Refusal),
     Level(Pin),

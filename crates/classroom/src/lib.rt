@@ -1,5 +1,7 @@
 // The teacher's calls (document 02, Ask 3): a desk is opened with a key, and closed by its number. Beside them, when a pupil's call is
 // refused, and what it hands back; the calls themselves are in crate desk.
+#![tactic(auto)]
+
 ghost use Rattle.std.specs.Prelude.{◌≡◌};
 ghost use Rattle.refusal.specs.Check.{check};
 ghost use Rattle.classroom.specs.Calls.{opening_checked, closing_checked, key_grounds, calling_checked, open_answer, close_answer};
@@ -12,28 +14,28 @@ use refusal::{Checked, Refusal};
 use spi::TransferReply;
 
 // What the teacher's call hands back.
-#[derive(Drop)]
+#[derive(Clone, Copy)]
 pub struct TeacherAnswer {
     pub classroom: Classroom,
     pub checked: Checked,
 }
 
 // What a pupil's calls hand back. Where 9 to 11 refuse one, it tells nothing of the desk: the pin is open.
-#[derive(Drop)]
+#[derive(Clone, Copy)]
 pub struct DeskTransfer {
     pub classroom: Classroom,
     pub reply: TransferReply,
     pub pin: Pin,
 }
 
-#[derive(Drop)]
+#[derive(Clone, Copy)]
 pub struct DeskEvent {
     pub classroom: Classroom,
     pub reply: EventReply,
     pub pin: Pin,
 }
 
-#[derive(Drop)]
+#[derive(Clone, Copy)]
 pub struct DeskStep {
     pub classroom: Classroom,
     pub reply: StepReply,

@@ -1,4 +1,6 @@
 // The console of a classroom: the teacher opens, closes and lists desks, and pupils have their lines.
+#![tactic(auto)]
+
 ghost use Rattle.std.specs.Prelude.{◌≡◌, true, ◌<◌, ◌≤◌, length};
 ghost use Rattle.classroom_record.specs.Record.{is_desk};
 ghost use Rattle.classroom_script.specs.Place.{command_place};

@@ -1,4 +1,6 @@
 // The classroom's record (document 02, Ask 3): sixteen desks, each with the records of its board, a session key, and whether it is open.
+#![tactic(auto)]
+
 ghost use Rattle.std.specs.Prelude.{◌≡◌, true};
 ghost use Rattle.classroom_record.specs.Record.{closed_desk, all_closed, is_desk, is_open, desk_at, set_desk, key_in_use};
 ghost use Rattle.classroom_record.specs.Record.{same_board, sound_desk};
@@ -6,12 +8,12 @@ ghost use Rattle.classroom_record.specs.Record.{same_board, sound_desk};
 use board_record::Board;
 
 // The number of a desk: a kind of number of its own, as an endpoint's is (`model::EndpointNumber`).
-#[derive(Drop)]
+#[derive(Clone, Copy)]
 pub struct DeskNumber(pub u8);
 
 // The record is laid out as C programs hold it (include/max3420e.h).
 #[repr(C)]
-#[derive(Drop)]
+#[derive(Clone, Copy)]
 pub struct Desk {
     pub board: Board,
     pub opened: u8, // a flag: 1 is on, 0 is off
@@ -19,7 +21,7 @@ pub struct Desk {
 }
 
 #[repr(C)]
-#[derive(Drop)]
+#[derive(Clone, Copy)]
 pub struct Classroom {
     pub desks: [Desk; 16],
 }

@@ -1,4 +1,6 @@
 // A line of a classroom becomes an order of the teacher, or a line at a desk.
+#![tactic(auto)]
+
 ghost use Rattle.std.specs.Prelude.{◌≡◌, ◌≤◌, ltb, length};
 ghost use Rattle.classroom_record.specs.Record.{is_desk};
 ghost use Rattle.classroom_script.specs.Place.{command_place, seat_place};
@@ -9,7 +11,7 @@ use script::{Expected, Fault};
 use words::Word;
 
 // What a line asks for.
-#[derive(Drop)]
+#[derive(Clone, Copy)]
 pub enum ClassroomCommand {
     Nothing,
     Open(DeskNumber, u32),
@@ -22,7 +24,7 @@ pub enum ClassroomCommand {
 }
 
 // A desk and a key, and where the line goes on.
-#[derive(Drop)]
+#[derive(Clone, Copy)]
 enum Seat {
     At(DeskNumber, u32, usize),
     Fault(Fault),

@@ -1,4 +1,6 @@
 // The console: a line is read, what it asks for is called, and the answer is put. The board is held here and nowhere else.
+#![tactic(auto)]
+
 ghost use Rattle.std.specs.Prelude.{◌≤◌, length};
 
 use board::Board;
@@ -9,7 +11,7 @@ use script::{Command, Fault};
 // The bytes lent for replies at first. No reply is longer, so that a greater room answers as this one does.
 pub const ROOM: usize = 4200;
 
-#[derive(Drop)]
+#[derive(Clone, Copy)]
 pub struct Console {
     pub board: Board,
     pub room: usize,

@@ -1,4 +1,6 @@
 // The stage of a control transfer, read off the setup bytes (document 01, "The bus side").
+#![tactic(auto)]
+
 ghost use Rattle.std.specs.Prelude.{◌≡◌, ◌+◌, ◌*◌};
 ghost use Rattle.rules.specs.Control.{w_length, reading, sets_address};
 

@@ -1,4 +1,6 @@
 // The check values of USB packets (USB 2.0, section 8.3.5): CRC16 of data, a byte at a time by a table, and CRC5 of a token, bit by bit.
+#![tactic(auto)]
+
 ghost use Rattle.std.specs.Prelude.{◌≡◌};
 ghost use Rattle.crc.specs.Crc.{generator16, generator5, feed, feeds, feed_bytes, entries, crc16_of, crc5_of};
 

@@ -1,10 +1,12 @@
 // The descriptors and the other data that a request reads, and how they are sent (document 01, "The firmware").
+#![tactic(auto)]
+
 ghost use Rattle.std.specs.Prelude.{◌≡◌, ◌≤◌, min, length};
 ghost use Rattle.descriptor.specs.Table.{data_bytes};
 ghost use Rattle.descriptor.specs.Send.{Sent};
 
 // What a request reads: a status byte and a zero, one byte, or a descriptor; a string goes by its index.
-#[derive(Drop)]
+#[derive(Clone, Copy)]
 pub enum Data {
     Status(u8),
     Byte(u8),
@@ -51,7 +53,7 @@ fn copy(table: &[u8], wlength: u16, reply: &mut [u8]) -> u8
     ensures { Sent table.now wlength reply.old result reply.new }
 {
     let n = least(wlength as usize, table.len());
-    bytes::copy(&table[..n], reply);
+    octets::copy(&table[..n], reply);
     n as u8
 }
 

@@ -1,5 +1,7 @@
 // A pupil's calls (document 02, Ask 3): a transfer, an event or a board step names desk and key, and is the board's own call on the records
 // of that desk. The classroom stays in its place: no function below takes it, and no two ways join holding it (docs/BENCHMARK.md).
+#![tactic(auto)]
+
 ghost use Rattle.std.specs.Prelude.{◌≡◌, length};
 ghost use Rattle.model.specs.Call.{Call};
 ghost use Rattle.classroom.specs.Calls.{desk_transfer, transfer_lent, desk_event, event_lent, desk_step, step_lent};

@@ -1,4 +1,6 @@
 // What waits at each endpoint, with its toggle and the position of its FIFO. Every line starts with a blank.
+#![tactic(auto)]
+
 ghost use Rattle.std.specs.Prelude.{◌≤◌, length};
 
 use chip::{Chip, Endpoint0, Endpoint1, Endpoint2, Endpoint3};

@@ -2,6 +2,8 @@
 // clears it, configures again, and resets the bus in the middle. Writes each call with its answer. A heading names the address
 // of the transactions below it; they go to endpoint 0 unless the line names another. Buffers are as long as in the lessons, and
 // filled with EE.
+#![tactic(auto)]
+
 use board::{Board, StepReply};
 use event_answer::EventReply;
 use model::{EndpointNumber, Event};

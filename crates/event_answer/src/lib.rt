@@ -1,4 +1,6 @@
 // What a call of the bus side hands back (document 01, "The bus side").
+#![tactic(auto)]
+
 ghost use Rattle.std.specs.Prelude.{◌≡◌};
 ghost use Rattle.event_answer.specs.Answer.{data_reply, event_answer_with};
 
@@ -6,7 +8,7 @@ use chip::{Chip, Pin};
 use refusal::Refusal;
 
 // What an event is replied: a refusal; events 1 to 9 done; nothing on the bus; a handshake; a data packet of so many bytes.
-#[derive(Drop)]
+#[derive(Clone, Copy)]
 pub enum EventReply {
     Refused(Refusal),
     Done,
@@ -19,7 +21,7 @@ pub enum EventReply {
 }
 
 // The record handed back, the reply, and the INT pin.
-#[derive(Drop)]
+#[derive(Clone, Copy)]
 pub struct EventAnswer {
     pub chip: Chip,
     pub reply: EventReply,

@@ -1,4 +1,6 @@
 // The body of an event in a lesson (document 02, Ask 5), to an event and back.
+#![tactic(auto)]
+
 ghost use Rattle.std.specs.Prelude.{◌≡◌, [], ◌∷◌, ◌+◌, ◌≤◌, length, get_or};
 ghost use Rattle.std.proofs.lemmas.List.Edits.{sets};
 ghost use Rattle.event_body.specs.Body.{is_signal, signal, input_pins, transaction, event_of, payload_of, mark, body_of};

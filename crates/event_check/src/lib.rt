@@ -1,4 +1,6 @@
 // Whether an event is refused (documents 01 and 02, Ask 1): the grounds in their order, for all that take one in.
+#![tactic(auto)]
+
 ghost use Rattle.std.specs.Prelude.{◌≡◌};
 ghost use Rattle.refusal.specs.Check.{check, checked_number};
 ghost use Rattle.model.specs.Call.{event_grounds};

@@ -1,6 +1,8 @@
 // Exchanges of a host with the chip: control transfers of each kind, SET_ADDRESS, double buffering both ways with lost ACKs and wrong
 // toggles, suspend, activity, a bus reset in the middle, and refusals. What the microcontroller does over SPI is done to the
 // record by hand. Writes each event with its reply.
+#![tactic(auto)]
+
 use bus::EventReply;
 use chip::Chip;
 use model::{EndpointNumber, Event};

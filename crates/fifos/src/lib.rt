@@ -1,5 +1,7 @@
 // R0 to R4, the FIFO registers, on the endpoint that each belongs to, and their writes on the record (document 01, "Writes" and
 // "Reads").
+#![tactic(auto)]
+
 ghost use Rattle.std.specs.Prelude.{◌≡◌};
 ghost use Rattle.rules.specs.Write.{write_ep0fifo, write_ep2infifo, write_ep3infifo};
 ghost use Rattle.fifos.specs.Fifo.{ep0_store_to, ep2_store_to, ep3_store_to, position_to, ep0_byte_of, ep1_byte_of, setup_byte_of};

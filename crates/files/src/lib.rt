@@ -1,10 +1,12 @@
 // Files: opened, read to the end, written anew; and the end of what goes to standard output. What fails is told on standard error.
+#![tactic(auto)]
+
 ghost use Rattle.std.specs.Prelude.{◌≤◌, length};
 
 use output::Output;
 
 // How much of a file is read, and whether a read failed.
-#[derive(Drop)]
+#[derive(Clone, Copy)]
 pub struct Read {
     pub length: usize,
     pub failed: bool,

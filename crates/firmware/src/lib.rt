@@ -1,4 +1,6 @@
 // The firmware's answer to eight setup bytes (document 01, "The firmware").
+#![tactic(auto)]
+
 ghost use Rattle.std.specs.Prelude.{◌≡◌, ◌≤◌, length};
 ghost use Rattle.request.specs.Request.{word, request_of};
 ghost use Rattle.firmware.specs.Registers.{epstalls_of, clrtogs_of};
@@ -9,7 +11,7 @@ use request::{Decision, Request};
 pub use request::{Endpoints, Firmware};
 
 // A refusal, STALL, ACK only, or so many bytes and ACK.
-#[derive(Drop)]
+#[derive(Clone, Copy)]
 pub enum RequestReply {
     Refused(Refusal),
     Stall,
@@ -18,7 +20,7 @@ pub enum RequestReply {
 }
 
 // The reply, the next record, and what is to be written to R9 and R10 before the ACK.
-#[derive(Drop)]
+#[derive(Clone, Copy)]
 pub struct RequestAnswer {
     pub reply: RequestReply,
     pub firmware: Firmware,

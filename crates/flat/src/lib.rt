@@ -1,4 +1,6 @@
 // What the C functions hand back: the records as they are, the reply and the pin as numbers (include/max3420e.h).
+#![tactic(auto)]
+
 ghost use Rattle.std.specs.Prelude.{◌≡◌};
 ghost use Rattle.refusal.specs.Number.{refusal_number, refusal_found};
 ghost use Rattle.chip.specs.Pin.{pin_number};
@@ -15,7 +17,7 @@ use spi::{TransferAnswer, TransferReply};
 
 // What a transfer or an event hands back.
 #[repr(C)]
-#[derive(Drop)]
+#[derive(Clone, Copy)]
 pub struct FlatAnswer {
     pub chip: Chip,
     pub refusal: u8,
@@ -27,7 +29,7 @@ pub struct FlatAnswer {
 
 // What a board step hands back.
 #[repr(C)]
-#[derive(Drop)]
+#[derive(Clone, Copy)]
 pub struct FlatBoardAnswer {
     pub chip: Chip,
     pub firmware: Firmware,
@@ -40,7 +42,7 @@ pub struct FlatBoardAnswer {
 
 // What the firmware's answer to eight setup bytes hands back.
 #[repr(C)]
-#[derive(Drop)]
+#[derive(Clone, Copy)]
 pub struct FlatRequestAnswer {
     pub firmware: Firmware,
     pub refusal: u8,
@@ -51,7 +53,7 @@ pub struct FlatRequestAnswer {
 }
 
 // A reply: the number of refusal and the length that it tells, the PID or the kind, and the bytes written.
-#[derive(Drop)]
+#[derive(Clone, Copy)]
 pub struct Numbers {
     pub refusal: u8,
     pub found: usize,

@@ -1,4 +1,6 @@
 // The event that the arguments of an exported function mean (include/max3420e.h).
+#![tactic(auto)]
+
 ghost use Rattle.std.specs.Prelude.{◌≡◌};
 ghost use Rattle.flat_arguments.specs.Arguments.{event_of};
 

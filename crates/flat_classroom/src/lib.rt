@@ -1,4 +1,6 @@
 // What the classroom's C functions hand back: the classroom as it is, the reply and the pin as numbers (include/max3420e.h).
+#![tactic(auto)]
+
 ghost use Rattle.std.specs.Prelude.{◌≡◌};
 ghost use Rattle.refusal.specs.Check.{checked_number};
 ghost use Rattle.flat_classroom.specs.Answer.{flat_teacher, flat_desk_transfer, flat_desk_event, flat_desk_step};
@@ -9,7 +11,7 @@ use refusal::Checked;
 
 // What opening and closing a desk hand back.
 #[repr(C)]
-#[derive(Drop)]
+#[derive(Clone, Copy)]
 pub struct FlatTeacherAnswer {
     pub classroom: Classroom,
     pub refusal: u8,
@@ -17,7 +19,7 @@ pub struct FlatTeacherAnswer {
 
 // What a pupil's transfer or event hands back.
 #[repr(C)]
-#[derive(Drop)]
+#[derive(Clone, Copy)]
 pub struct FlatDeskAnswer {
     pub classroom: Classroom,
     pub refusal: u8,
@@ -29,7 +31,7 @@ pub struct FlatDeskAnswer {
 
 // What a pupil's board step hands back.
 #[repr(C)]
-#[derive(Drop)]
+#[derive(Clone, Copy)]
 pub struct FlatDeskStep {
     pub classroom: Classroom,
     pub refusal: u8,

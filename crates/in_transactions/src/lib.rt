@@ -1,5 +1,7 @@
 // IN at endpoints 0, 2 and 3 that is heard (document 01, "The bus side"). The verdict comes first; then, from the verdict, what is replied,
 // the packet's bytes copied at once, and the record after. One way for the three endpoints, so that no two ways join holding a record.
+#![tactic(auto)]
+
 ghost use Rattle.std.specs.Prelude.{◌≡◌, Bool, cond, ◌&&◌, ◌++◌, ◌≤◌, length, take, drop};
 ghost use Rattle.std.specs.Int.Bits.{bit_and};
 ghost use Rattle.ring.specs.Ring.{oldest_count, oldest_packet};
@@ -68,7 +70,7 @@ fn copy_front(buffer: [u8; 64], count: u8, reply: &mut [u8]) -> u8
     ensures { (length (take count buffer) ≡ result) × (reply.new ≡ take count buffer ++ drop result reply.old) }
 {
     let end = count as usize;
-    bytes::copy(&buffer[..end], reply);
+    octets::copy(&buffer[..end], reply);
     count
 }
 

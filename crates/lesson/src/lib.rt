@@ -1,4 +1,6 @@
 // The file of a lesson (document 02, Ask 5): whether it is one, its entries, and the time between two of them.
+#![tactic(auto)]
+
 ghost use Rattle.std.specs.Prelude.{◌≡◌, ◌+◌, ◌≤◌, length, drop};
 ghost use Rattle.refusal.specs.declared.Checked.TheVariants.{Accepted};
 ghost use Rattle.lesson.specs.Lesson.{table_end};

@@ -1,4 +1,6 @@
 // A lesson played as text: a line for each entry, with its number, its tick and what the call is answered, then a summary.
+#![tactic(auto)]
+
 ghost use Rattle.std.specs.Prelude.{◌≡◌, ◌≤◌, length, if◌then◌else◌, nat_eq, slice_index};
 ghost use Rattle.refusal.specs.declared.Checked.TheVariants.{Accepted};
 ghost use Rattle.lesson.specs.Read.{lesson_of, reading_checked, Located};
@@ -13,7 +15,7 @@ use spi::TransferReply;
 const TRANSFER: u8 = 1;
 
 // What the entries played so far leave.
-#[derive(Drop)]
+#[derive(Clone, Copy)]
 struct Run {
     chip: Chip,
     // The tick of the last of them, and the ticks since the first: those between each and the next, added up.

@@ -1,4 +1,6 @@
 // Why a file is no lesson, in words. Which entry is named comes from the check of the crate lesson; what is said here explains it.
+#![tactic(auto)]
+
 ghost use Rattle.std.specs.Prelude.{◌≡◌, ◌+◌, ◌*◌, ◌≤◌, length};
 ghost use Rattle.lesson.specs.Read.{offset_at};
 

@@ -1,4 +1,6 @@
 // Lessons in files: a file is read and played, and one is written from a script. What fails is told on standard error.
+#![tactic(auto)]
+
 ghost use Rattle.std.specs.Prelude.{◌≡◌, ◌≤◌, length};
 ghost use Rattle.refusal.specs.declared.Checked.TheVariants.{Accepted};
 ghost use Rattle.lesson.specs.Read.{lesson_of, reading_checked};
@@ -11,7 +13,7 @@ use refusal::{Checked, Refusal};
 use session::Session;
 
 // What is recorded of a script, and whether it is all of it.
-#[derive(Drop)]
+#[derive(Clone, Copy)]
 struct Recorded {
     count: usize,
     size: usize,

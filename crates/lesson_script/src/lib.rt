@@ -1,4 +1,6 @@
 // A line of the script of a lesson: a call of the chip, as a line of the console, or the tick of the next one.
+#![tactic(auto)]
+
 ghost use Rattle.std.specs.Prelude.{◌≡◌, ◌≤◌, length};
 ghost use Rattle.lesson_script.specs.Line.{line_count, tick_of};
 
@@ -6,7 +8,7 @@ use numerals::NumberWord;
 use script::{Command, Expected};
 use words::Word;
 
-#[derive(Drop)]
+#[derive(Clone, Copy)]
 pub enum Line {
     Tick(u32),
     Call(Command),

@@ -1,5 +1,7 @@
 // Writes the file of a lesson (document 02, Ask 5). The lesson is lent in parts: the entries' kinds, ticks and body lengths, and the bodies
 // one after the other.
+#![tactic(auto)]
+
 ghost use Rattle.std.specs.Prelude.{◌≡◌, ◌+◌, ◌≤◌, length};
 ghost use Rattle.std.proofs.lemmas.List.Edits.{sets};
 ghost use Rattle.lesson.specs.Lesson.{row, file_of};
@@ -9,7 +11,7 @@ ghost use Rattle.lesson_writer.specs.Room.{TableRoom, FileRoom};
 use refusal::Refusal;
 
 // What the writer replies: a refusal, or how many bytes the file has.
-#[derive(Drop)]
+#[derive(Clone, Copy)]
 pub enum WriterReply {
     Refused(Refusal),
     Written(usize),

@@ -6,7 +6,7 @@ use native.Mathlib.Nat.{add-zero}
 use native.Mathlib.Omega.{arith}
 use lib.Pow.{field, shr-shr}
 use lib.ListN.{length, set, drop}
-use lib.Seq.{sets, sets_eq}
+use lib.Seq.{sets, sets-eq}
 use Rattle.little_endian.specs.Number.{little_endian}
 
 -- a run and the run after it are one run
@@ -20,7 +20,7 @@ put_put (v ∷ vs) ws xs i =
 pub put_first : (vs xs : List ℕ) → length vs ≤ length xs → sets xs 0 vs ≡ vs ++ drop (length vs) xs
 put_first vs xs h =
     let none : 0 + length vs ≡ length vs = omega arith in
-    sets_eq vs xs 0 (omega arith) ∙ ap (λ (k : ℕ). vs ++ drop k xs) none
+    sets-eq vs xs 0 (omega arith) ∙ ap (λ (k : ℕ). vs ++ drop k xs) none
 
 -- ---- two bytes, four bytes
 

@@ -1,4 +1,6 @@
 // Numbers in a slice, the low byte first; and runs of bytes put into one.
+#![tactic(auto)]
+
 ghost use Rattle.std.specs.Prelude.{◌≡◌, ◌+◌, ◌≤◌, length, drop};
 ghost use Rattle.std.proofs.lemmas.List.Edits.{sets};
 ghost use Rattle.little_endian.specs.Number.{little_endian, from_little_endian};
@@ -42,5 +44,5 @@ pub fn put_bytes(output: &mut [u8], at: usize, run: &[u8])
     requires { at + length run.now ≤ length output.old }
     ensures { output.new ≡ sets output.old at run.now }
 {
-    bytes::copy(run, &mut output[at..]);
+    octets::copy(run, &mut output[at..]);
 }

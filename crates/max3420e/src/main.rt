@@ -1,11 +1,13 @@
 // The console, or the console of a classroom, on a file that is named or on standard input; or a lesson that is played or recorded:
 // `max3420e [FILE]`, `max3420e classroom [FILE]`, `max3420e replay FILE`, `max3420e record SCRIPT FILE`.
+#![tactic(auto)]
+
 use console::Console;
 use roster::Roster;
 use session::Session;
 
 // What the first argument asks for.
-#[derive(Drop)]
+#[derive(Clone, Copy)]
 enum Asked {
     Console,
     Classroom,

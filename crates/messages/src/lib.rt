@@ -1,4 +1,6 @@
 // What the console says of itself: its greeting, its help, and why a line cannot be read.
+#![tactic(auto)]
+
 ghost use Rattle.std.specs.Prelude.{◌≤◌, length};
 
 use output::Output;

@@ -1,16 +1,18 @@
 // Numbers as text: hex bytes of one or two digits, decimal numbers, keys of one to eight hex digits.
+#![tactic(auto)]
+
 ghost use Rattle.std.specs.Prelude.{◌≡◌, [], ◌∷◌, ◌<◌, ◌≤◌, ◌/◌, ◌%◌, length, get_or};
 ghost use Rattle.numerals.specs.Numerals.{hex_digit, hex_glyph, byte_of_digits, byte_of, grown, number_of, hex_key_of};
 
 // What a word says where a byte is expected.
-#[derive(Drop)]
+#[derive(Clone, Copy)]
 pub enum ByteWord {
     Byte(u8),
     Unreadable,
 }
 
 // What a word says where a number is expected.
-#[derive(Drop)]
+#[derive(Clone, Copy)]
 pub enum NumberWord {
     Number(u32),
     Unreadable,

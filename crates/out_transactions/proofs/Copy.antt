@@ -4,7 +4,7 @@ use mathlib.Core.List.{List, ◌++◌, append-nil}
 use Prim.Native.Nat.{ℕ, ◌+◌, ◌≤◌}
 use native.Mathlib.Omega.{arith}
 use lib.ListN.{length, take, drop, drop_of_length-le}
-use lib.Seq.{sets, sets_eq, take-length}
+use lib.Seq.{sets, sets-eq, take-length}
 
 -- as many bytes as the array has take its place
 pub copied_whole : (vs dst : List ℕ) → length dst ≤ length vs → take (length vs) vs ++ drop (length vs) dst ≡ vs
@@ -14,4 +14,4 @@ copied_whole vs dst fits = rw (take-length vs, drop_of_length-le dst fits) (appe
 pub copied_front : (vs dst : List ℕ) → length vs ≤ length dst → take (length vs) vs ++ drop (length vs) dst ≡ sets dst 0 vs
 copied_front vs dst fits =
     let start : 0 + length vs ≡ length vs = omega arith in
-    rw (take-length vs, sets_eq vs dst 0 (omega arith), start)
+    rw (take-length vs, sets-eq vs dst 0 (omega arith), start)

@@ -1,5 +1,7 @@
 // SETUP at endpoint 0, and OUT at endpoints 0 and 1, that are heard (document 01, "The bus side"). The verdict comes first; then a
 // straight way for each makes the answer, so that no two ways join holding a record.
+#![tactic(auto)]
+
 ghost use Rattle.std.specs.Prelude.{◌≡◌, ◌<◌, ◌≤◌, length};
 ghost use Rattle.model.specs.Reply.{outcome, ack};
 ghost use Rattle.rules.specs.Control.{ep0_setup, setup_to};
@@ -18,7 +20,7 @@ fn ep0_setup(mut e: Endpoint0, payload: &[u8]) -> Endpoint0
     ensures { result ≡ ep0_setup e payload.now }
 {
     let mut sudfifo = [0u8; 8];
-    bytes::copy(payload, &mut sudfifo);
+    octets::copy(payload, &mut sudfifo);
     e.setup = sudfifo;
     e.armed = 0;
     e.readpos = 0;
@@ -67,7 +69,7 @@ fn ep0_filled(mut e: Endpoint0, payload: &[u8]) -> Endpoint0
     ensures { result ≡ ep0_filled e payload.now }
 {
     let mut buffer = e.bytes;
-    let count = bytes::copy(payload, &mut buffer);
+    let count = octets::copy(payload, &mut buffer);
     e.bytes = buffer;
     e.count = count as u8;
     e.readpos = 0;

@@ -1,8 +1,10 @@
 // Text goes to a lent page, and from there to standard output when the page is full or at a flush. Nothing is lost and no
 // call has a precondition; a write that fails is remembered. What a program tells of itself goes to standard error by `tell`.
+#![tactic(auto)]
+
 ghost use Rattle.std.specs.Prelude.{◌≡◌, ◌≤◌, length};
 
-#[derive(Drop)]
+#[derive(Clone, Copy)]
 pub struct Output {
     // The bytes of the page that are not yet written.
     pub filled: usize,
@@ -55,7 +57,7 @@ fn store(text: &[u8], page: &mut [u8], output: Output) -> Output
     if length - filled < text.len() {
         return next;
     }
-    bytes::copy(text, &mut page[filled..]);
+    octets::copy(text, &mut page[filled..]);
     next.filled = filled + text.len();
     next
 }

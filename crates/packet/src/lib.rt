@@ -1,10 +1,12 @@
 // The packets of an analyser's run (document 02, Ask 6): where each is, and what is wrong with it.
+#![tactic(auto)]
+
 ghost use Rattle.std.specs.Prelude.{◌≡◌, true, cond, ◌+◌, ◌%◌, ◌≤◌, ◌<◌, eqb, length, drop};
 ghost use Rattle.packet.specs.Pid.{is_token_pid, is_data_pid, is_handshake_pid, is_pid, is_known_pid};
 ghost use Rattle.packet.specs.Packet.{pid_of, fits, token_word, token_checks, data_checks, checks, judge, packet_with, packet_of, Inside};
 
 // What is wrong with a packet: the first that applies.
-#[derive(Drop)]
+#[derive(Clone, Copy)]
 pub enum PacketFault {
     // The high half of its PID does not complement the low half.
     Complement,
@@ -14,13 +16,13 @@ pub enum PacketFault {
     Check,
 }
 
-#[derive(Drop)]
+#[derive(Clone, Copy)]
 pub enum Judgement {
     Good,
     Bad(PacketFault),
 }
 
-#[derive(Drop)]
+#[derive(Clone, Copy)]
 pub struct Packet {
     // Where its length stands in the run, and where the next one's does.
     pub place: usize,

@@ -1,4 +1,6 @@
 // The packets of an analyser's run as text: a line for each, and the summary of what was made of them.
+#![tactic(auto)]
+
 ghost use Rattle.std.specs.Prelude.{◌<◌, ◌≤◌, length};
 ghost use Rattle.packet.specs.Packet.{Inside};
 
@@ -6,14 +8,14 @@ use output::Output;
 use packet::{Judgement, Packet, PacketFault};
 
 // How many packets are listed.
-#[derive(Drop)]
+#[derive(Clone, Copy)]
 pub struct Listed {
     pub packets: u64,
     pub output: Output,
 }
 
 // How many items are played, and how many packets they pass over.
-#[derive(Drop)]
+#[derive(Clone, Copy)]
 pub struct Counts {
     pub events: u64,
     pub bad: u64,

@@ -1,4 +1,6 @@
 // An analyser's runs in files: the packets are listed, and the events played on a board, from power-on or after a script of the console.
+#![tactic(auto)]
+
 ghost use Rattle.std.specs.Prelude.{◌≤◌, length};
 
 use console::Console;
@@ -6,7 +8,7 @@ use output::Output;
 use session::Session;
 
 // What a script leaves, and whether it was played to its end.
-#[derive(Drop)]
+#[derive(Clone, Copy)]
 struct Prepared {
     console: Console,
     whole: bool,

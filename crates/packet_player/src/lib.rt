@@ -1,4 +1,6 @@
 // The items of an analyser's run as text: a line for each, the events played on a board as the console does.
+#![tactic(auto)]
+
 ghost use Rattle.std.specs.Prelude.{◌≤◌, length};
 
 use analyser::{Found, Item};
@@ -9,7 +11,7 @@ use packet::PacketFault;
 use packet_console::Counts;
 
 // What the items played so far leave.
-#[derive(Drop)]
+#[derive(Clone, Copy)]
 pub struct Played {
     pub board: Board,
     pub counts: Counts,

@@ -1,1 +1,3 @@
 // Runs of packets that were written out: definitions and theorems, no functions.
+#![tactic(auto)]
+

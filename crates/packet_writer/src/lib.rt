@@ -1,4 +1,6 @@
 // Writes out the host's packets of an event (document 02, Ask 6). Whether it is refused is decided first: a refused call writes no byte.
+#![tactic(auto)]
+
 ghost use Rattle.std.specs.Prelude.{◌≡◌, true, cond, [], ◌∷◌, ◌++◌, ◌+◌, ◌≤◌, ◌<◌, length};
 ghost use Rattle.std.proofs.lemmas.List.Edits.{sets};
 ghost use Rattle.refusal.specs.declared.Checked.TheVariants.{Accepted};
@@ -13,7 +15,7 @@ use model::Event;
 use refusal::Refusal;
 
 // What the writer replies: a refusal, or how many bytes the packets have.
-#[derive(Drop)]
+#[derive(Clone, Copy)]
 pub enum PacketsReply {
     Refused(Refusal),
     Written(usize),

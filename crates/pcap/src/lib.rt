@@ -1,4 +1,6 @@
 // A capture in the classic pcap format, which analysers of packets open: its header, and a record for each packet.
+#![tactic(auto)]
+
 ghost use Rattle.std.specs.Prelude.{◌≡◌, ◌+◌, ◌≤◌, length};
 ghost use Rattle.std.proofs.lemmas.List.Edits.{sets};
 ghost use Rattle.pcap.specs.Capture.{capture_header, record_lead, capture_record};

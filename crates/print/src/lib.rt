@@ -1,4 +1,6 @@
 // What the small programs write on standard output: text, bytes, why a call is refused.
+#![tactic(auto)]
+
 use refusal::Refusal;
 
 pub fn put(text: &[u8]) {

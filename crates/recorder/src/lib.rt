@@ -1,5 +1,7 @@
 // Records a lesson: each call line of a script becomes an entry, whose parts go to lent slices, as the writer of lessons takes them: room
 // for 255 entries and 65,536 bytes of bodies takes every lesson. With less, one that does not fit is refused as one that is too large.
+#![tactic(auto)]
+
 ghost use Rattle.std.specs.Prelude.{◌+◌, ◌≤◌, length};
 ghost use Rattle.recorder.specs.Recording.{Fits};
 
@@ -9,7 +11,7 @@ use output::Output;
 use script::{Command, Fault};
 
 // What is recorded so far: how many entries, the bytes of their bodies, and the tick of the next; or why the last line is not.
-#[derive(Drop)]
+#[derive(Clone, Copy)]
 pub struct Recording {
     pub count: usize,
     pub size: usize,
@@ -17,7 +19,7 @@ pub struct Recording {
     pub wrong: Wrong,
 }
 
-#[derive(Drop)]
+#[derive(Clone, Copy)]
 pub enum Wrong {
     Nothing,
     // The line cannot be read.
@@ -145,7 +147,7 @@ fn add_transfer(
     if bodies.len() - size < bytes.len() {
         return recording.refuse(Wrong::Size);
     }
-    bytes::copy(bytes, &mut bodies[size..]);
+    octets::copy(bytes, &mut bodies[size..]);
     add_entry(recording, TRANSFER, bytes.len(), kinds, ticks, lengths)
 }
 

@@ -1,8 +1,10 @@
 // Why a call is refused (document 01, "Numbers of refusal", and document 02, Asks 1, 3 and 5).
+#![tactic(auto)]
+
 ghost use Rattle.std.specs.Prelude.{◌≡◌};
 ghost use Rattle.refusal.specs.Number.{refusal_number, refusal_found, refusal_of};
 
-#[derive(Drop)]
+#[derive(Clone, Copy)]
 pub enum Refusal {
     // A record passed in is not sound.
     Unsound,
@@ -33,7 +35,7 @@ pub enum Refusal {
 }
 
 // Whether a call is accepted, or why not.
-#[derive(Drop)]
+#[derive(Clone, Copy)]
 pub enum Checked {
     Accepted,
     Refused(Refusal),

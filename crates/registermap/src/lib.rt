@@ -1,4 +1,6 @@
 // The registers by the maker's names, with their values and the bits that are 1 (000, "Register Map").
+#![tactic(auto)]
+
 ghost use Rattle.std.specs.Prelude.{◌≡◌, ◌≤◌, length};
 
 use chip::{Chip, Endpoint0, Registers};
@@ -98,7 +100,7 @@ fn put_name(names: &[u8], index: usize, width: usize, page: &mut [u8], output: O
 {
     if index < names.len() / CELL {
         let start = CELL * index;
-        let end = bytes::scan::find(names, start, start + CELL, b' ');
+        let end = octets::find(names, start, start + CELL, b' ');
         return output::put_column(&names[start..end], width, page, output);
     }
     output::put(b"", page, output)

@@ -1,4 +1,6 @@
 // One register of the record: a byte written, a byte read, and the register that is selected next (document 01, "The SPI side").
+#![tactic(auto)]
+
 ghost use Rattle.std.specs.Prelude.{◌≡◌};
 ghost use Rattle.chip.specs.declared.Chip.{Chip};
 ghost use Rattle.chip.specs.Set.{set_registers};

@@ -1,5 +1,7 @@
 // Replay of a lesson (document 02, Ask 5): the calls of its entries are made one by one from power-on, and what each is answered is
 // written to a lent buffer, or nothing at all if that does not fit.
+#![tactic(auto)]
+
 ghost use Rattle.std.specs.Prelude.{◌≡◌, ◌+◌, ◌≤◌, ◌<◌, length};
 ghost use Rattle.std.proofs.lemmas.List.Edits.{sets};
 ghost use Rattle.model.specs.Reply.{lent};
@@ -15,14 +17,14 @@ use flat::FlatAnswer;
 use refusal::{Checked, Refusal};
 
 // What a lesson is replied: a refusal, or how many bytes are written.
-#[derive(Drop)]
+#[derive(Clone, Copy)]
 pub enum ReplayReply {
     Refused(Refusal),
     Played(usize),
 }
 
 // The record after the lesson, the reply, and the INT pin.
-#[derive(Drop)]
+#[derive(Clone, Copy)]
 pub struct ReplayAnswer {
     pub chip: Chip,
     pub reply: ReplayReply,
@@ -39,7 +41,7 @@ const MOST: usize = 82876;
 const TRANSFER: u8 = 1;
 
 // What the calls of a lesson leave so far: the record, and how many bytes they are answered with.
-#[derive(Drop)]
+#[derive(Clone, Copy)]
 struct Run {
     chip: Chip,
     size: usize,

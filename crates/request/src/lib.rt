@@ -2,6 +2,8 @@
 //
 // A request is decided by its type, then by its code, then by the descriptor type. specs/Request.antt lists the requests
 // that are answered.
+#![tactic(auto)]
+
 ghost use Rattle.std.specs.Prelude.{◌≡◌, cond};
 ghost use Rattle.request.specs.Record.{power_on_firmware, sound_firmware};
 ghost use Rattle.request.specs.Request.{fields, plain, decision_of};
@@ -10,7 +12,7 @@ use descriptor::Data;
 
 // The configuration, whether remote wakeup is enabled, and whether endpoint 3 is halted.
 #[repr(C)]
-#[derive(Drop)]
+#[derive(Clone, Copy)]
 pub struct Firmware {
     pub configuration: u8,
     pub wakeup: u8, // a flag: 1 is on, 0 is off
@@ -39,7 +41,7 @@ impl Firmware {
 }
 
 // What an accepted request changes at the data endpoints: the halt of endpoint 3, and toggles.
-#[derive(Drop)]
+#[derive(Clone, Copy)]
 pub enum Endpoints {
     Unchanged,
     ClearHalt,
@@ -48,7 +50,7 @@ pub enum Endpoints {
 }
 
 // What becomes of a request: STALL; data to send; or an ACK, with the next record.
-#[derive(Drop)]
+#[derive(Clone, Copy)]
 pub enum Decision {
     Stall,
     Send(Data),
@@ -56,7 +58,7 @@ pub enum Decision {
 }
 
 // The fields of a request, by their names in USB 2.0 section 9.3.
-#[derive(Drop)]
+#[derive(Clone, Copy)]
 pub struct Request {
     pub bmrequesttype: u8,
     pub brequest: u8,

@@ -1,4 +1,6 @@
 // The three resets of the record, driven by one table of reset lines with a row for each of R5 to R20.
+#![tactic(auto)]
+
 ghost use Rattle.std.specs.Prelude.{◌≡◌, ◌≤◌, ◌<◌};
 ghost use Rattle.reset.specs.Table.{past_rows, row_of, line_of, register_after};
 ghost use Rattle.reset.specs.Reset.{wipes, bytes_after, ring_after, ep0_after, ep1_after};
@@ -7,7 +9,7 @@ ghost use Rattle.reset.specs.Reset.{ep2_after, ep3_after, registers_after, power
 use chip::{Chip, Endpoint0, Endpoint1, Endpoint2, Endpoint3, Power, Registers};
 use ring::Ring;
 
-#[derive(Drop)]
+#[derive(Clone, Copy)]
 pub enum Reset {
     PowerOn,
     ChipReset,
@@ -15,14 +17,14 @@ pub enum Reset {
 }
 
 // What a reset does to a register: the bits that it keeps, and the bits that it sets; every other becomes 0.
-#[derive(Drop)]
+#[derive(Clone, Copy)]
 pub struct Line {
     pub keep: u8,
     pub value: u8,
 }
 
 // A register's lines.
-#[derive(Drop)]
+#[derive(Clone, Copy)]
 pub struct Row {
     pub poweron: Line,
     pub chipreset: Line,

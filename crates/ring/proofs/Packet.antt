@@ -7,7 +7,7 @@ use Prim.Native.Nat.{ℕ, suc, ◌+◌, ◌-◌, ◌*◌, ◌≤◌, ◌<◌}
 use native.Mathlib.Decide.{dec_lt}
 use native.Mathlib.Omega.{arith}
 use lib.ListN.{length, get_or, set, take, drop, length-take, length-drop, get_or-eq_default}
-use lib.Seq.{sets, sets_eq, get_or-take, get_or-drop, take-set-le, drop-set-lt, drop-set-add, take_at, drop_at, length-take-le}
+use lib.Seq.{sets, sets-eq, get_or-take, get_or-drop, take-set-le, drop-set-lt, drop-set-add, take_at, drop_at, length-take-le}
 use Rattle.ring.specs.Ring.{packet}
 
 -- ---- bytes and length
@@ -53,6 +53,6 @@ packet_sets_same vs s j h =
     let front : List ℕ = take (j * 64) s in
     let rest : List ℕ = drop (j * 64 + length vs) s in
     let long : length front ≡ j * 64 = length-take-le (j * 64) s (omega arith) in
-    ap (λ (t : List ℕ). packet t j (length vs)) (sets_eq vs s (j * 64) h ∙ append_assoc front vs rest)
+    ap (λ (t : List ℕ). packet t j (length vs)) (sets-eq vs s (j * 64) h ∙ append_assoc front vs rest)
     ∙ ap (take (length vs)) (drop_at front (vs ++ rest) (j * 64) long)
     ∙ take_at vs rest (length vs) refl

@@ -1,11 +1,13 @@
 // The two buffers of a double-buffered endpoint, which serve in turn. A function has the name of the definition that its
 // promise cites; what it requires, the rule that makes the operation has tested.
+#![tactic(auto)]
+
 ghost use Rattle.std.specs.Prelude.{◌≡◌, ◌++◌, ◌<◌, ◌≤◌, length, get_or, drop};
 ghost use Rattle.ring.specs.Ring.{empty_ring, drained, sound_ring, next_buffer, oldest_count};
 ghost use Rattle.ring.specs.Ring.{oldest_packet, store_byte, arm_next, fill_next, release_oldest};
 
 #[repr(C)]
-#[derive(Drop)]
+#[derive(Clone, Copy)]
 pub struct Ring {
     // Buffer i stands at 64 * i.
     pub bytes: [u8; 128],
@@ -82,7 +84,7 @@ impl Ring {
     {
         let start = self.next_buffer() * 64;
         let mut buffers = self.bytes;
-        let count = bytes::copy(payload, &mut buffers[start..]);
+        let count = octets::copy(payload, &mut buffers[start..]);
         self.bytes = buffers;
         self.arm_next(count as u8)
     }
@@ -131,6 +133,6 @@ impl Ring {
         let start = (self.oldest % 2) as usize * 64;
         let end = start + self.oldest_count() as usize;
         let buffers = self.bytes;
-        bytes::copy(&buffers[start..end], reply)
+        octets::copy(&buffers[start..end], reply)
     }
 }

@@ -1,4 +1,6 @@
 // A roster: the classroom, and what is kept for each desk. A line at a desk is done by the calls of that desk, with its key.
+#![tactic(auto)]
+
 ghost use Rattle.std.specs.Prelude.{◌≡◌, ◌≤◌, true, length};
 ghost use Rattle.classroom_record.specs.Record.{is_desk, all_closed};
 
@@ -9,7 +11,7 @@ use output::Output;
 use refusal::Checked;
 use script::Command;
 
-#[derive(Drop)]
+#[derive(Clone, Copy)]
 pub struct Roster {
     pub classroom: Classroom,
     // Of each desk, from its opening on: the bytes lent for replies, and how many calls were made.
@@ -21,7 +23,7 @@ pub struct Roster {
 }
 
 // Whom a line names: a desk, and a key that may be its own.
-#[derive(Drop)]
+#[derive(Clone, Copy)]
 pub struct Pupil {
     pub number: DeskNumber,
     pub key: u32,

@@ -1,7 +1,9 @@
 // The meaning of the MAX3420E: definitions and theorems, no functions. The types below are those that the code above shares with
 // the definitions: what an endpoint decides on a transaction that it hears.
+#![tactic(auto)]
 
-#[derive(Drop)]
+
+#[derive(Clone, Copy)]
 pub enum OutVerdict {
     // The endpoint is disabled.
     Silent,
@@ -15,7 +17,7 @@ pub enum OutVerdict {
     Status,
 }
 
-#[derive(Drop)]
+#[derive(Clone, Copy)]
 pub enum InVerdict {
     // The endpoint is disabled.
     Silent,

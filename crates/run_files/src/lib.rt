@@ -1,4 +1,6 @@
 // An analyser's run in a file: read, and written anew as a capture. What fails is told on standard error.
+#![tactic(auto)]
+
 ghost use Rattle.std.specs.Prelude.{◌<◌, ◌≤◌, length};
 
 use output::Output;
@@ -7,14 +9,14 @@ use output::Output;
 const SIZE: usize = 1048576;
 
 // What is read of a run, and whether it is one to go on with.
-#[derive(Drop)]
+#[derive(Clone, Copy)]
 pub struct Taken {
     pub length: usize,
     pub whole: bool,
 }
 
 // What is written of a capture.
-#[derive(Drop)]
+#[derive(Clone, Copy)]
 struct Capture {
     packets: u64,
     bytes: u64,

@@ -1,4 +1,6 @@
 // Whether two records are the same, number by number.
+#![tactic(auto)]
+
 ghost use Rattle.std.specs.Prelude.{◌≡◌};
 ghost use Rattle.chip.specs.Same.{same_numbers, same_ring, same_ep0, same_ep1, same_ep2, same_ep3, same_registers, same_chip};
 ghost use Rattle.same.specs.Firmware.{same_firmware};

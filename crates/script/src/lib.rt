@@ -1,4 +1,6 @@
 // A line of a script becomes a command. The bytes that it names go to a lent buffer, as long as the line at least.
+#![tactic(auto)]
+
 ghost use Rattle.std.specs.Prelude.{◌≤◌, ◌≡◌, length};
 ghost use Rattle.script.specs.Command.{command_count, payload_count};
 
@@ -7,7 +9,7 @@ use numerals::{ByteWord, NumberWord};
 use words::Word;
 
 // What a line asks for. A count is that of the bytes in the lent buffer.
-#[derive(Drop)]
+#[derive(Clone, Copy)]
 pub enum Command {
     Nothing,
     Transfer(usize),
@@ -37,14 +39,14 @@ impl Command {
 }
 
 // What was expected, and where the word stands in the line that is something else. Nothing stands there where the line ends.
-#[derive(Drop)]
+#[derive(Clone, Copy)]
 pub struct Fault {
     pub expected: Expected,
     pub start: usize,
     pub end: usize,
 }
 
-#[derive(Drop)]
+#[derive(Clone, Copy)]
 pub enum Expected {
     Line,
     Byte,
@@ -67,14 +69,14 @@ pub enum Expected {
 }
 
 // The bytes at a line's end.
-#[derive(Drop)]
+#[derive(Clone, Copy)]
 enum Payload {
     Bytes(usize),
     Fault(Fault),
 }
 
 // Whom a transaction addresses, and where the line goes on.
-#[derive(Drop)]
+#[derive(Clone, Copy)]
 enum Target {
     At(Event, usize),
     Fault(Fault),

@@ -1,5 +1,7 @@
 // A session: lines are read from a file, and the answers on a lent page are written. What waits on the page is written before each read,
 // so that who types sees it.
+#![tactic(auto)]
+
 ghost use Rattle.std.specs.Prelude.{◌≡◌, ◌≤◌, length};
 
 use output::Output;
@@ -8,7 +10,7 @@ use output::Output;
 const LINE: usize = 16384;
 
 // What is kept between two reads and two lines.
-#[derive(Drop)]
+#[derive(Clone, Copy)]
 pub struct Session {
     pub fd: i32,
     // The bytes of the chunk that are not taken yet.
@@ -69,7 +71,7 @@ fn append(part: &[u8], line: &mut [u8], filled: usize) -> usize
         return length;
     }
     let count = lesser(part.len(), length - filled);
-    bytes::copy(&part[0..count], &mut line[filled..]);
+    octets::copy(&part[0..count], &mut line[filled..]);
     filled + count
 }
 
@@ -78,7 +80,7 @@ fn take_part(session: Session, chunk: &[u8], start: usize, end: usize, line: &mu
     requires { (start ≤ end) × (end ≤ length chunk.now) }
     ensures { result.filled ≤ length line.old }
 {
-    let stop = bytes::scan::find(chunk, start, end, b'\n');
+    let stop = octets::find(chunk, start, end, b'\n');
     let filled = append(&chunk[start..stop], line, session.filled);
     let mut next = session;
     next.filled = filled;

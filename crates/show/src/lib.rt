@@ -1,4 +1,6 @@
 // The record as text: registers, supply and pin, and what waits at each endpoint. Every line starts with a blank.
+#![tactic(auto)]
+
 ghost use Rattle.std.specs.Prelude.{◌≤◌, length};
 
 use chip::{Chip, Pin, Power};

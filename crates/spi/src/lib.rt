@@ -1,4 +1,6 @@
 // One SPI transfer: its refusals, the command byte, reply byte 0; its data bytes are crate transfer_bursts (document 01, "The SPI side").
+#![tactic(auto)]
+
 ghost use Rattle.std.specs.Prelude.{◌≡◌, cond, ◌<◌, ◌≤◌, length};
 ghost use Rattle.bits.specs.Bit.{raised};
 ghost use Rattle.ring.specs.Ring.{oldest_count};
@@ -17,13 +19,13 @@ use chip::{Chip, Pin, Registers};
 use refusal::{Checked, Refusal};
 
 // Why a transfer is refused, or how many bytes of the lent buffer are its reply.
-#[derive(Drop)]
+#[derive(Clone, Copy)]
 pub enum TransferReply {
     Refused(Refusal),
     Transferred(u16),
 }
 
-#[derive(Drop)]
+#[derive(Clone, Copy)]
 pub struct TransferAnswer {
     pub chip: Chip,
     pub reply: TransferReply,

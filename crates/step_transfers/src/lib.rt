@@ -1,4 +1,6 @@
 // The transfers of the board step (document 01, "The firmware", last paragraph), each as a sound record takes it.
+#![tactic(auto)]
+
 ghost use Rattle.std.specs.Prelude.{◌≡◌, true, ◌+◌, ◌≤◌, length, take, drop, [], ◌∷◌};
 ghost use Rattle.chip.specs.Sound.{sound_chip};
 ghost use Rattle.firmware.specs.Answer.{request_count};
@@ -32,7 +34,7 @@ fn acknowledge(mut chip: Chip) -> Chip
 }
 
 // What R4 read, behind the place of reply byte 0, which the step does not use.
-#[derive(Drop)]
+#[derive(Clone, Copy)]
 pub struct SetupRead {
     pub chip: Chip,
     pub reply: [u8; 9],

@@ -1,5 +1,7 @@
 // The data bytes of a transfer on the record: at a FIFO on its endpoint, at the control registers one after the other (document 01, "The
 // SPI side").
+#![tactic(auto)]
+
 ghost use Rattle.std.specs.Prelude.{◌≡◌, true, false, ◌<◌, ◌≤◌, length, replicate};
 ghost use Rattle.ring.specs.Ring.{oldest_count};
 ghost use Rattle.rules.specs.Spi.{max3420e_spi};

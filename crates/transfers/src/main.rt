@@ -1,5 +1,7 @@
 // Runs transfers on the real code: the bench cases of document 01 that need no bus event, the refusals, and long bursts. Writes
 // each transfer with its answer: the lent buffer is shown whole, so that bytes past the reply can be seen to stay EE.
+#![tactic(auto)]
+
 use chip::{Chip, Pin};
 use print::{put, put_byte, put_refusal};
 use spi::TransferReply;

@@ -1,5 +1,7 @@
 // What the chip decides on a transaction, in plain numbers and before any record is made: whether it is heard, and each endpoint's
 // verdict (document 01, "The bus side"). A function tests in the order of the definition that its promise cites.
+#![tactic(auto)]
+
 ghost use Rattle.std.specs.Prelude.{◌≡◌};
 ghost use Rattle.rules.specs.Seen.{connection_of, seen, heard};
 ghost use Rattle.rules.specs.Write.{ep0_busy};

@@ -1,11 +1,13 @@
 // The words of a line, which blanks and tabs set apart, and what they say.
+#![tactic(auto)]
+
 ghost use Rattle.std.specs.Prelude.{◌≡◌, ◌+◌, ◌-◌, ◌/◌, ◌≤◌, eqb, length};
 ghost use Rattle.words.specs.Words.{Within};
 
 use numerals::{ByteWord, NumberWord};
 
 // Where a word starts, and where it ends: at the line's end with nothing between, where no word is left.
-#[derive(Drop)]
+#[derive(Clone, Copy)]
 pub struct Word {
     pub start: usize,
     pub end: usize,
@@ -41,7 +43,7 @@ pub fn content(line: &[u8]) -> usize
     ensures { result ≤ length line.now }
 {
     let end = without_return(line);
-    bytes::scan::find(line, 0, end, b'#')
+    octets::find(line, 0, end, b'#')
 }
 
 // The first place from `from` on whose byte is blank, or is not, as asked.
