@@ -197,6 +197,7 @@ impl Registers {
             & ((self.epirq & self.epien != 0) | (self.usbirq & self.usbien != 0))
     }
 
+    #[tactic(auto, unfolding(crate::specs::Pin::pin_of))]
     pub fn pin(self) -> Pin
         ensures { result ≡ pin_of self }
     {
@@ -331,6 +332,7 @@ impl Chip {
 
     pub const OUTPUT_BITS: u8 = 0x0f;
 
+    #[tactic(auto, unfolding(crate::specs::Record::power_on_chip))]
     pub fn power_on() -> Self
         ensures { result ≡ power_on_chip }
     {
@@ -397,6 +399,7 @@ impl Chip {
             & (self.power.oscok <= 1)
     }
 
+    #[tactic(auto, unfolding(crate::specs::Sound::sound_chip))]
     pub fn is_sound(self) -> bool
         ensures { result ≡ sound_chip self }
     {
@@ -414,6 +417,7 @@ impl Chip {
             & self.sound_flags()
     }
 
+    #[tactic(auto, unfolding(crate::specs::Pin::pin_reply))]
     pub fn int_pin(self) -> PinReply
         ensures { (result ≡ pin_reply self) × (pin_refusal result ≡ cond (sound_chip self) 0 1)
             × (pin_value result ≡ cond (sound_chip self) (pin_number (pin_of self.registers)) 3) }
