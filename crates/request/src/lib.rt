@@ -110,6 +110,7 @@ fn select(flag: bool, set: u8, clear: u8) -> u8
 }
 
 // Reads from the device: GET_STATUS, GET_DESCRIPTOR, GET_CONFIGURATION.
+#[tactic(auto, unfolding(crate::specs::Request::decision_of))]
 fn read_device(request: Request, firmware: Firmware) -> Decision
     requires { request.bmrequesttype ≡ 0x80 }
     ensures { result ≡ decision_of request firmware }
@@ -134,6 +135,7 @@ fn read_device(request: Request, firmware: Firmware) -> Decision
 }
 
 // Reads from the interface: GET_STATUS, GET_DESCRIPTOR, GET_INTERFACE.
+#[tactic(auto, unfolding(crate::specs::Request::decision_of))]
 fn read_interface(request: Request, firmware: Firmware) -> Decision
     requires { request.bmrequesttype ≡ 0x81 }
     ensures { result ≡ decision_of request firmware }
@@ -154,6 +156,7 @@ fn read_interface(request: Request, firmware: Firmware) -> Decision
 }
 
 // Reads from an endpoint: GET_STATUS.
+#[tactic(auto, unfolding(crate::specs::Request::decision_of))]
 fn read_endpoint(request: Request, firmware: Firmware) -> Decision
     requires { request.bmrequesttype ≡ 0x82 }
     ensures { result ≡ decision_of request firmware }
@@ -174,6 +177,7 @@ fn read_endpoint(request: Request, firmware: Firmware) -> Decision
 }
 
 // Writes to the device: CLEAR_FEATURE, SET_FEATURE, SET_ADDRESS, SET_CONFIGURATION.
+#[tactic(auto, unfolding(crate::specs::Request::decision_of))]
 fn write_device(request: Request, firmware: Firmware) -> Decision
     requires { request.bmrequesttype ≡ 0x00 }
     ensures { result ≡ decision_of request firmware }
@@ -215,6 +219,7 @@ fn write_device(request: Request, firmware: Firmware) -> Decision
 }
 
 // Writes to the interface: SET_INTERFACE.
+#[tactic(auto, unfolding(crate::specs::Request::decision_of))]
 fn write_interface(request: Request, firmware: Firmware) -> Decision
     requires { request.bmrequesttype ≡ 0x01 }
     ensures { result ≡ decision_of request firmware }
@@ -231,6 +236,7 @@ fn write_interface(request: Request, firmware: Firmware) -> Decision
 }
 
 // Writes to an endpoint: CLEAR_FEATURE, SET_FEATURE.
+#[tactic(auto, unfolding(crate::specs::Request::decision_of))]
 fn write_endpoint(request: Request, firmware: Firmware) -> Decision
     requires { request.bmrequesttype ≡ 0x02 }
     ensures { result ≡ decision_of request firmware }
@@ -259,6 +265,7 @@ fn write_endpoint(request: Request, firmware: Firmware) -> Decision
 }
 
 // What becomes of a request.
+#[tactic(auto, using(crate::proofs::Decided::undecided))]
 pub fn decide(request: Request, firmware: Firmware) -> Decision
     ensures { result ≡ decision_of request firmware }
 {
