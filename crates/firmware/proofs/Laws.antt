@@ -137,7 +137,7 @@ answer_sound setup f reply sound =
 run_sound : (f : Firmware) (calls : List Question) → sound_firmware f ≡ true → sound_firmware (record_after f calls) ≡ true
 unfolding record_after
 run_sound f [] sound = sound
-run_sound f (call ∷ calls) sound = run_sound _ calls (answer_sound call.0 f call.1 sound)
+run_sound f (call ∷ calls) sound = run_sound (handled call.0 f call.1).answer.firmware calls (answer_sound call.0 f call.1 sound)
 
 -- every record that is reached from power-on
 pub reached_sound : (calls : List Question) → sound_firmware (record_after power_on_firmware calls) ≡ true

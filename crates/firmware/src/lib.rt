@@ -71,6 +71,7 @@ fn unchanged(reply: RequestReply, firmware: Firmware) -> RequestAnswer
 }
 
 // The answer to a request, for a call that is not refused.
+#[tactic(auto, unfolding(crate::specs::Answer::served_of))]
 fn serve(request: Request, firmware: Firmware, reply: &mut [u8]) -> RequestAnswer
     requires { 64 ≤ length reply.old }
     ensures { (result ≡ (served_of request firmware reply.old).answer)
