@@ -119,24 +119,38 @@ in2_gone_law l c some i =
 abbrev Sent : Books → Bool → Outcome Chip Reply → Type 0
 Sent l arrives o = Agree (cond arrives (note_sent l.0 o.gives) l.0, l.1) o.state
 
-in2_sent : (l : Books) (c : Chip) (arrives : Bool) → 0 < c.ep2.ring.waiting → Agree l c
-    → Agree (cond arrives (acknowledges l (oldest_packet 2 c.ep2.ring)).0 l.0, l.1) (cond arrives (in2_gone c) c)
-in2_sent l c true some i = in2_gone_law l c some i
-in2_sent l c false some i = i
+-- a reply that the ledger does not note
+unnoted : (l : Books) (c : Chip) (arrives : Bool) → Agree l c → Agree (cond arrives l.0 l.0, l.1) c
+unnoted l c true i = i
+unnoted l c false i = i
+
+-- what is kept where endpoint 2 answers by a verdict
+abbrev In2 : Books → Chip → Bool → InVerdict → Type 0
+In2 l c arrives v = Sent l arrives
+    (in_outcome ep2inak (sent (is_on c.ep2.toggle) (oldest_packet 2 c.ep2.ring)) (in2_gone c) c arrives v)
+
+in2_silent : (l : Books) (c : Chip) (arrives : Bool) → Agree l c → In2 l c arrives Silent
+in2_silent l c arrives i = unnoted l c arrives i
+
+in2_stall : (l : Books) (c : Chip) (arrives : Bool) → Agree l c → In2 l c arrives Stall
+in2_stall l c arrives i = unnoted l c arrives i
+
+in2_nak : (l : Books) (c : Chip) (arrives : Bool) → Agree l c → In2 l c arrives Nak
+in2_nak l c arrives i = unnoted l (set_inak ep2inak c) arrives (inak_keeps l c ep2inak i)
+
+in2_send : (l : Books) (c : Chip) (arrives : Bool) → Agree l c → not (eqb c.ep2.ring.waiting 0) ≡ true → In2 l c arrives Send
+in2_send l c true i waits =
+    let n : c.ep2.ring.waiting ≡ 0 → ⊥ = eqb-false c.ep2.ring.waiting 0 (not-true (eqb c.ep2.ring.waiting 0) waits) in
+    in2_gone_law l c (omega arith) i
+in2_send l c false i waits = i
 
 in2_keeps : (l : Books) (c : Chip) (arrives : Bool) → Agree l c → Sent l arrives (in2 c arrives)
 in2_keeps l c arrives i =
-    let none-noted : cond arrives l.0 l.0 ≡ l.0 = cond_same arrives l.0 in
-    first_elim (λ (v : InVerdict). Sent l arrives
-    (in_outcome ep2inak (sent (is_on c.ep2.toggle) (oldest_packet 2 c.ep2.ring)) (in2_gone c) c arrives v))
+    first_elim (In2 l c arrives)
     ((has c.registers.clrtogs ep2disab, Silent) ∷ (has c.registers.epstalls stlep2in, Stall) ∷
     (not (eqb c.ep2.ring.waiting 0), Send) ∷ []) Nak
-    ((λ _. rw none-noted i) ⨾ (λ _. rw none-noted i)
-    ⨾ (λ waits.
-    let n : c.ep2.ring.waiting ≡ 0 → ⊥ = eqb-false c.ep2.ring.waiting 0 (not-true (eqb c.ep2.ring.waiting 0) waits) in
-    in2_sent l c arrives (omega arith) i)
-    ⨾ none)
-    (λ _. rw none-noted (inak_keeps l c ep2inak i))
+    ((λ _. in2_silent l c arrives i) ⨾ (λ _. in2_stall l c arrives i) ⨾ (λ waits. in2_send l c arrives i waits) ⨾ none)
+    (λ _. in2_nak l c arrives i)
 
 -- ---- the event
 

@@ -27,8 +27,8 @@ use Rattle.rules.proofs.Lawful.{max3420e_lawful}
 -- the ring's type says that there is room for two buffers; `.1 .1` of what a struct's type says is what its fields' types say
 fits : (r : Ring) {vs : List Val} → Is (row ring.the_type) r vs → sound_ring 2 r ≡ true → Fits 2 r
 fits r g s =
-    let bytes : length r.bytes ≡ 128 = sym (length-map r.bytes _) ∙ g.1.1.0.1.0.1 in
-    let counts : length r.counts ≡ 2 = sym (length-map r.counts _) ∙ g.1.1.1.0.1.0.1 in
+    let bytes : length r.bytes ≡ 128 = g.1.1.0.1.0.1 in
+    let counts : length r.counts ≡ 2 = g.1.1.1.0.1.0.1 in
     record { room = omega arith; places = omega arith; sound = s }
 
 -- a ledger that knows of the waiting packets only
