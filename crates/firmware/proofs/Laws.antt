@@ -31,7 +31,6 @@ use Rattle.firmware.specs.Answer.{Numbers}
 use Rattle.firmware.specs.Run.{Question, record_after}
 use Rattle.firmware.specs.declared.RequestAnswer.{RequestAnswer}
 use Rattle.firmware.specs.declared.RequestReply.{RequestReply}
-use Rattle.firmware.specs.declared.RequestReply.TheVariants as RequestReply
 
 -- ---- what an answer can be
 

@@ -13,7 +13,6 @@ use Rattle.request.specs.Request.{request_of, decision_of}
 use Rattle.request.specs.declared.Firmware.{Firmware}
 use Rattle.request.specs.declared.Request.{Request}
 use Rattle.request.specs.declared.Decision.{Decision}
-use Rattle.request.specs.declared.Decision.TheVariants as Decision
 use Rattle.request.specs.declared.Endpoints.TheVariants.{Unchanged}
 use Rattle.firmware.specs.declared.RequestReply.{RequestReply}
 use Rattle.firmware.specs.declared.RequestReply.TheVariants.{Refused, Stall, Ack, Data}

@@ -2,7 +2,6 @@
 // The types below are those that the code shares with the definitions.
 #![tactic(auto)]
 
-
 // The number of an endpoint, 0 to 15: a kind of number of its own (document 02, Ask 3).
 #[derive(Clone, Copy)]
 pub struct EndpointNumber(pub u8);

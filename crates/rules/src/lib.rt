@@ -2,7 +2,6 @@
 // the definitions: what an endpoint decides on a transaction that it hears.
 #![tactic(auto)]
 
-
 #[derive(Clone, Copy)]
 pub enum OutVerdict {
     // The endpoint is disabled.

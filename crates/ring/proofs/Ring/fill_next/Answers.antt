@@ -18,6 +18,6 @@ returns c =
     let long : length c.args.self.bytes ≡ 128 = search rules in
     let fits : start + length vs ≤ 128 = omega arith in
     let bytes = ap (put_mid start (128 - start) c.args.self.bytes) c.copy-count.ensures.copied
-        ∙ copied_in c.args.self.bytes vs start 128 long fits
-        ∙ ap (λ (k : ℕ). sets c.args.self.bytes (k * 64) vs) c.next_buffer-start.ensures.0 in
+    ∙ copied_in c.args.self.bytes vs start 128 long fits
+    ∙ ap (λ (k : ℕ). sets c.args.self.bytes (k * 64) vs) c.next_buffer-start.ensures.0 in
     c.arm_next.ensures ∙ ap₂ (λ (s : List ℕ) (n : ℕ). arm_next 2 (with_bytes c.args.self s) n) bytes c.copy-count.ensures.count
