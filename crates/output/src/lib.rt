@@ -29,6 +29,11 @@ impl Output {
             error: 0,
         }
     }
+
+    // Why a write failed.
+    pub fn reason(self) -> io::Error {
+        io::Error::from_raw_os_error(self.error)
+    }
 }
 
 // Writes what stands on the page to an open stream.
