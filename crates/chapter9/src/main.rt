@@ -80,97 +80,98 @@ const CONFIGURATION: [u8; 40] = *b"\x00\x09\x02\x00\x00\x00\x00\x00\
     \x00\x09\x01\x00\x00\x00\x00\x00\
     \x82\x00\x00\x00\x83\x00\x02\x00";
 
-fn put_endpoints(endpoints: Endpoints) {
+fn put_endpoints(rt: &impl Print, endpoints: Endpoints) {
     match endpoints {
-        Endpoints::Unchanged => put(b"\n"),
-        Endpoints::ClearHalt => put(b", clear halt\n"),
-        Endpoints::SetHalt => put(b", set halt\n"),
-        Endpoints::Configure => put(b", configure\n"),
+        Endpoints::Unchanged => put(rt, b"\n"),
+        Endpoints::ClearHalt => put(rt, b", clear halt\n"),
+        Endpoints::SetHalt => put(rt, b", set halt\n"),
+        Endpoints::Configure => put(rt, b", configure\n"),
     }
 }
 
-fn put_reply(reply: RequestReply, buffer: &[u8])
+fn put_reply(rt: &impl Print, reply: RequestReply, buffer: &[u8])
     requires { request_count reply ≤ length buffer.now }
 {
     match reply {
-        RequestReply::Refused(refusal) => put_refusal(refusal),
-        RequestReply::Stall => put(b": stall"),
-        RequestReply::Ack => put(b": ack"),
+        RequestReply::Refused(refusal) => put_refusal(rt, refusal),
+        RequestReply::Stall => put(rt, b": stall"),
+        RequestReply::Ack => put(rt, b": ack"),
         RequestReply::Data(n) => {
-            put(b": data");
-            put_bytes(&buffer[..n as usize]);
+            put(rt, b": data");
+            put_bytes(rt, &buffer[..n as usize]);
         }
     }
 }
 
 // Makes one call, and writes the request and the answer.
-fn ask(setup: &[u8], firmware: Firmware, buffer: &mut [u8]) -> Firmware {
+fn ask(rt: &impl Print, setup: &[u8], firmware: Firmware, buffer: &mut [u8]) -> Firmware {
     let response = firmware::answer(setup, firmware, buffer);
     let reply = response.reply;
     let endpoints = response.endpoints;
-    put(b"request");
-    put_bytes(setup);
-    put_reply(reply, buffer);
-    put_endpoints(endpoints);
+    put(rt, b"request");
+    put_bytes(rt, setup);
+    put_reply(rt, reply, buffer);
+    put_endpoints(rt, endpoints);
     response.firmware
 }
 
 // The same with a reply buffer of 64 bytes, which is enough.
-fn ask_with_64(setup: &[u8], firmware: Firmware) -> Firmware {
+fn ask_with_64(rt: &impl Print, setup: &[u8], firmware: Firmware) -> Firmware {
     let mut buffer = [0u8; 64];
-    ask(setup, firmware, &mut buffer)
+    ask(rt, setup, firmware, &mut buffer)
 }
 
 // The same with a reply buffer of 63 bytes, which is refused.
-fn ask_with_63(setup: &[u8], firmware: Firmware) -> Firmware {
+fn ask_with_63(rt: &impl Print, setup: &[u8], firmware: Firmware) -> Firmware {
     let mut buffer = [0u8; 63];
-    ask(setup, firmware, &mut buffer)
+    ask(rt, setup, firmware, &mut buffer)
 }
 
 // Makes calls in a row, of eight bytes each.
-fn ask_each(requests: &[u8], firmware: Firmware) -> Firmware {
+fn ask_each(rt: &impl Print, requests: &[u8], firmware: Firmware) -> Firmware {
     let mut next = firmware;
     for i in 0..requests.len() / 8 {
-        next = ask_with_64(&requests[8 * i..8 * i + 8], next);
+        next = ask_with_64(rt, &requests[8 * i..8 * i + 8], next);
     }
     next
 }
 
-fn ask_under(heading: &[u8], requests: &[u8], firmware: Firmware) -> Firmware {
-    put(heading);
-    ask_each(requests, firmware)
+fn ask_under(rt: &impl Print, heading: &[u8], requests: &[u8], firmware: Firmware) -> Firmware {
+    put(rt, heading);
+    ask_each(rt, requests, firmware)
 }
 
-fn ask_all(firmware: Firmware) -> Firmware {
+fn ask_all(rt: &impl Print, firmware: Firmware) -> Firmware {
     let mut next = firmware;
-    next = ask_under(b"GET_STATUS\n", &STATUS, next);
-    next = ask_under(b"Remote wakeup\n", &WAKEUP, next);
-    next = ask_under(b"The halt of endpoint 83\n", &HALT, next);
-    next = ask_under(b"SET_ADDRESS, GET_CONFIGURATION\n", &DEVICE, next);
+    next = ask_under(rt, b"GET_STATUS\n", &STATUS, next);
+    next = ask_under(rt, b"Remote wakeup\n", &WAKEUP, next);
+    next = ask_under(rt, b"The halt of endpoint 83\n", &HALT, next);
+    next = ask_under(rt, b"SET_ADDRESS, GET_CONFIGURATION\n", &DEVICE, next);
     next = ask_under(
+        rt,
         b"GET_DESCRIPTOR: device, configuration\n",
         &DESCRIPTORS,
         next,
     );
-    next = ask_under(b"GET_DESCRIPTOR: strings\n", &STRINGS, next);
-    next = ask_under(b"The interface\n", &INTERFACE, next);
-    next = ask_under(b"Requests that are not served\n", &OTHERS, next);
-    next = ask_under(b"SET_CONFIGURATION\n", &CONFIGURATION, next);
+    next = ask_under(rt, b"GET_DESCRIPTOR: strings\n", &STRINGS, next);
+    next = ask_under(rt, b"The interface\n", &INTERFACE, next);
+    next = ask_under(rt, b"Requests that are not served\n", &OTHERS, next);
+    next = ask_under(rt, b"SET_CONFIGURATION\n", &CONFIGURATION, next);
     next
 }
 
-fn main() {
-    put(b"== Not configured\n");
-    let configured = ask_all(Firmware::power_on());
-    put(b"== Configured\n");
-    ask_all(configured);
-    put(b"== Refused\n");
+fn main(rt: HostRuntime) {
+    put(&rt, b"== Not configured\n");
+    let configured = ask_all(&rt, Firmware::power_on());
+    put(&rt, b"== Configured\n");
+    ask_all(&rt, configured);
+    put(&rt, b"== Refused\n");
     let unsound = Firmware {
         configuration: 2,
         ..configured
     };
-    ask_with_63(&STATUS[..7], unsound);
-    ask_with_63(&STATUS[..7], configured);
-    ask_with_64(&STATUS[..7], configured);
-    ask_with_64(&STATUS[..9], configured);
+    ask_with_63(&rt, &STATUS[..7], unsound);
+    ask_with_63(&rt, &STATUS[..7], configured);
+    ask_with_64(&rt, &STATUS[..7], configured);
+    ask_with_64(&rt, &STATUS[..9], configured);
 }

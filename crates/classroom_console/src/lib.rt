@@ -22,10 +22,10 @@ fn begin_desk(roster: Roster, number: DeskNumber) -> Roster
     next
 }
 
-fn open(roster: Roster, number: DeskNumber, key: u32, page: &mut [u8]) -> Roster {
+fn open(rt: &impl Print, roster: Roster, number: DeskNumber, key: u32, page: &mut [u8]) -> Roster {
     let answer = classroom::open(roster.classroom, number, key);
     let checked = answer.checked;
-    let output = answers::answer_checked(roster.line, checked, page, roster.output);
+    let output = answers::answer_checked(rt, roster.line, checked, page, roster.output);
     let classroom = answer.classroom;
     let mut next = roster;
     next.classroom = classroom;
@@ -36,10 +36,10 @@ fn open(roster: Roster, number: DeskNumber, key: u32, page: &mut [u8]) -> Roster
     }
 }
 
-fn close(roster: Roster, number: DeskNumber, page: &mut [u8]) -> Roster {
+fn close(rt: &impl Print, roster: Roster, number: DeskNumber, page: &mut [u8]) -> Roster {
     let answer = classroom::close(roster.classroom, number);
     let checked = answer.checked;
-    let output = answers::answer_checked(roster.line, checked, page, roster.output);
+    let output = answers::answer_checked(rt, roster.line, checked, page, roster.output);
     let classroom = answer.classroom;
     let mut next = roster;
     next.classroom = classroom;
@@ -47,24 +47,31 @@ fn close(roster: Roster, number: DeskNumber, page: &mut [u8]) -> Roster {
     next
 }
 
-fn put_calls(calls: u64, page: &mut [u8], output: Output) -> Output
+fn put_calls(rt: &impl Print, calls: u64, page: &mut [u8], output: Output) -> Output
     ensures { result.filled ≤ length page.old }
 {
-    let counted = output::put_decimal(calls, page, output);
+    let counted = output::put_decimal(rt, calls, page, output);
     if calls == 1 {
-        return output::put(b" call\n", page, counted);
+        return output::put(rt, b" call\n", page, counted);
     }
-    output::put(b" calls\n", page, counted)
+    output::put(rt, b" calls\n", page, counted)
 }
 
-fn put_desk(line: u64, desk: usize, calls: u64, page: &mut [u8], output: Output) -> Output
+fn put_desk(
+    rt: &impl Print,
+    line: u64,
+    desk: usize,
+    calls: u64,
+    page: &mut [u8],
+    output: Output,
+) -> Output
     ensures { result.filled ≤ length page.old }
 {
-    let begun = answers::begin(line, page, output);
-    let named = output::put(b"desk ", page, begun);
-    let numbered = output::put_decimal(desk as u64, page, named);
-    let told = output::put(b": ", page, numbered);
-    put_calls(calls, page, told)
+    let begun = answers::begin(rt, line, page, output);
+    let named = output::put(rt, b"desk ", page, begun);
+    let numbered = output::put_decimal(rt, desk as u64, page, named);
+    let told = output::put(rt, b": ", page, numbered);
+    put_calls(rt, calls, page, told)
 }
 
 fn is_open(classroom: Classroom, desk: usize) -> bool
@@ -74,39 +81,45 @@ fn is_open(classroom: Classroom, desk: usize) -> bool
 }
 
 // A desk, if it is open. Its key is not told: pupils look on.
-fn put_open(roster: Roster, desk: usize, page: &mut [u8], output: Output) -> Output
+fn put_open(rt: &impl Print, roster: Roster, desk: usize, page: &mut [u8], output: Output) -> Output
     requires { desk < 16 }
 {
     if is_open(roster.classroom, desk) {
-        return put_desk(roster.line, desk, roster.calls[desk], page, output);
+        return put_desk(rt, roster.line, desk, roster.calls[desk], page, output);
     }
     output
 }
 
 // The desks that are open.
-fn put_desks(roster: Roster, page: &mut [u8]) -> Output {
+fn put_desks(rt: &impl Print, roster: Roster, page: &mut [u8]) -> Output {
     let mut output = roster.output;
     let mut some = false;
     let mut i: usize = 0;
     while i < 16 {
-        output = put_open(roster, i, page, output);
+        output = put_open(rt, roster, i, page, output);
         some = some | is_open(roster.classroom, i);
         i += 1;
     }
     if some {
         return output;
     }
-    let begun = answers::begin(roster.line, page, output);
-    output::put(b"no desk is open\n", page, begun)
+    let begun = answers::begin(rt, roster.line, page, output);
+    output::put(rt, b"no desk is open\n", page, begun)
 }
 
 // What an order puts that changes no desk.
-fn tell_order(roster: Roster, order: ClassroomCommand, line: &[u8], page: &mut [u8]) -> Output {
+fn tell_order(
+    rt: &impl Print,
+    roster: Roster,
+    order: ClassroomCommand,
+    line: &[u8],
+    page: &mut [u8],
+) -> Output {
     match order {
-        ClassroomCommand::Desks => put_desks(roster, page),
-        ClassroomCommand::Help => messages::put_classroom_help(page, roster.output),
+        ClassroomCommand::Desks => put_desks(rt, roster, page),
+        ClassroomCommand::Help => messages::put_classroom_help(rt, page, roster.output),
         ClassroomCommand::Fault(fault) => {
-            console::answer_fault(roster.line, fault, line, page, roster.output)
+            console::answer_fault(rt, roster.line, fault, line, page, roster.output)
         }
         _ => roster.output,
     }
@@ -114,6 +127,7 @@ fn tell_order(roster: Roster, order: ClassroomCommand, line: &[u8], page: &mut [
 
 // Does what a line asks for.
 fn perform_order(
+    rt: &impl Print,
     roster: Roster,
     order: ClassroomCommand,
     line: &[u8],
@@ -123,13 +137,13 @@ fn perform_order(
     requires { (command_place order ≤ length line.now) × (length line.now ≤ length bytes.old) }
 {
     match order {
-        ClassroomCommand::Open(number, key) => open(roster, number, key, page),
-        ClassroomCommand::Close(number) => close(roster, number, page),
+        ClassroomCommand::Open(number, key) => open(rt, roster, number, key, page),
+        ClassroomCommand::Close(number) => close(rt, roster, number, page),
         ClassroomCommand::Call(number, key, at) => {
-            roster::call(roster, Pupil { number, key }, &line[at..], bytes, page)
+            roster::call(rt, roster, Pupil { number, key }, &line[at..], bytes, page)
         }
         _ => {
-            let told = tell_order(roster, order, line, page);
+            let told = tell_order(rt, roster, order, line, page);
             let mut next = roster;
             next.output = told;
             next
@@ -139,6 +153,7 @@ fn perform_order(
 
 // Takes a line, without its line end, and puts its answer where the output has come to. The lent bytes are for what the line names.
 pub fn take_line(
+    rt: &impl Print,
     roster: Roster,
     number: u64,
     line: &[u8],
@@ -154,5 +169,5 @@ pub fn take_line(
     let mut next = roster;
     next.line = number;
     next.output = output;
-    perform_order(next, order, text, bytes, page)
+    perform_order(rt, next, order, text, bytes, page)
 }

@@ -26,10 +26,7 @@ impl Console {
             board: Board::power_on(),
             room: ROOM,
             line: 0,
-            output: Output {
-                filled: 0,
-                failed: false,
-            },
+            output: Output::begin(),
         }
     }
 }
@@ -42,15 +39,22 @@ fn after(console: Console, board: Board, output: Output) -> Console {
     next
 }
 
-fn transfer(console: Console, bytes: &[u8], reply: &mut [u8], page: &mut [u8]) -> Console {
+fn transfer(
+    rt: &impl Print,
+    console: Console,
+    bytes: &[u8],
+    reply: &mut [u8],
+    page: &mut [u8],
+) -> Console {
     let answer = board::transfer(console.board, bytes, reply);
     let said = answer.reply;
     let pin = answer.pin;
-    let output = answers::answer_transfer(console.line, said, pin, reply, page, console.output);
+    let output = answers::answer_transfer(rt, console.line, said, pin, reply, page, console.output);
     after(console, answer.board, output)
 }
 
 fn event(
+    rt: &impl Print,
     console: Console,
     event: Event,
     bytes: &[u8],
@@ -60,20 +64,21 @@ fn event(
     let answer = board::event(console.board, event, bytes, reply);
     let said = answer.reply;
     let pin = answer.pin;
-    let output = answers::answer_event(console.line, said, pin, reply, page, console.output);
+    let output = answers::answer_event(rt, console.line, said, pin, reply, page, console.output);
     after(console, answer.board, output)
 }
 
-fn step(console: Console, reply: &mut [u8], page: &mut [u8]) -> Console {
+fn step(rt: &impl Print, console: Console, reply: &mut [u8], page: &mut [u8]) -> Console {
     let answer = board::step(console.board, reply);
     let said = answer.reply;
     let pin = answer.pin;
-    let output = answers::answer_step(console.line, said, pin, reply, page, console.output);
+    let output = answers::answer_step(rt, console.line, said, pin, reply, page, console.output);
     after(console, answer.board, output)
 }
 
 // Why a line cannot be read.
 pub fn answer_fault(
+    rt: &impl Print,
     number: u64,
     fault: Fault,
     line: &[u8],
@@ -82,13 +87,19 @@ pub fn answer_fault(
 ) -> Output
     ensures { result.filled ≤ length page.old }
 {
-    let begun = answers::begin(number, page, output);
-    let told = messages::put_fault(fault, line, page, begun);
-    output::put(b"\n", page, told)
+    let begun = answers::begin(rt, number, page, output);
+    let told = messages::put_fault(rt, fault, line, page, begun);
+    output::put(rt, b"\n", page, told)
 }
 
 // What a command puts that is no call.
-pub fn tell(console: Console, command: Command, line: &[u8], page: &mut [u8]) -> Console {
+pub fn tell(
+    rt: &impl Print,
+    console: Console,
+    command: Command,
+    line: &[u8],
+    page: &mut [u8],
+) -> Console {
     let output = console.output;
     let mut next = console;
     match command {
@@ -97,17 +108,17 @@ pub fn tell(console: Console, command: Command, line: &[u8], page: &mut [u8]) ->
             next
         }
         Command::Show => {
-            let shown = show::put_chip(console.board.chip, page, output);
+            let shown = show::put_chip(rt, console.board.chip, page, output);
             next.output = shown;
             next
         }
         Command::Help => {
-            let helped = messages::put_help(page, output);
+            let helped = messages::put_help(rt, page, output);
             next.output = helped;
             next
         }
         Command::Fault(fault) => {
-            let told = answer_fault(console.line, fault, line, page, output);
+            let told = answer_fault(rt, console.line, fault, line, page, output);
             next.output = told;
             next
         }
@@ -117,6 +128,7 @@ pub fn tell(console: Console, command: Command, line: &[u8], page: &mut [u8]) ->
 
 // Does what a line asks for, with so many bytes lent for the reply.
 fn perform(
+    rt: &impl Print,
     console: Console,
     command: Command,
     line: &[u8],
@@ -125,10 +137,10 @@ fn perform(
     page: &mut [u8],
 ) -> Console {
     match command {
-        Command::Transfer(_count) => transfer(console, bytes, reply, page),
-        Command::Event(sent, _count) => event(console, sent, bytes, reply, page),
-        Command::Step => step(console, reply, page),
-        _ => tell(console, command, line, page),
+        Command::Transfer(_count) => transfer(rt, console, bytes, reply, page),
+        Command::Event(sent, _count) => event(rt, console, sent, bytes, reply, page),
+        Command::Step => step(rt, console, reply, page),
+        _ => tell(rt, console, command, line, page),
     }
 }
 
@@ -141,6 +153,7 @@ pub fn lent(room: usize) -> usize
 
 // Takes a line, without its line end, and puts its answer where the output has come to. The lent bytes are for what the line names.
 pub fn take_line(
+    rt: &impl Print,
     console: Console,
     number: u64,
     line: &[u8],
@@ -158,6 +171,7 @@ pub fn take_line(
     let count = command.count();
     let room = lent(console.room);
     perform(
+        rt,
         next,
         command,
         line,

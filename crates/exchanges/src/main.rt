@@ -9,26 +9,26 @@ use model::{EndpointNumber, Event};
 use print::{put, put_byte, put_bytes, put_refusal};
 
 // Writes a packet at the front of a buffer.
-fn put_packet(pid: &[u8], buffer: &[u8], count: u8) {
-    put(pid);
+fn put_packet(rt: &impl Print, pid: &[u8], buffer: &[u8], count: u8) {
+    put(rt, pid);
     let end = count as usize;
     if end <= buffer.len() {
-        put_bytes(&buffer[..end]);
+        put_bytes(rt, &buffer[..end]);
     }
 }
 
-fn put_reply(reply: EventReply, buffer: &[u8]) {
+fn put_reply(rt: &impl Print, reply: EventReply, buffer: &[u8]) {
     match reply {
-        EventReply::Refused(refusal) => put_refusal(refusal),
-        EventReply::Done => put(b": done"),
-        EventReply::Silence => put(b": silence"),
-        EventReply::Ack => put(b": ACK"),
-        EventReply::Nak => put(b": NAK"),
-        EventReply::Stall => put(b": STALL"),
-        EventReply::Data0(count) => put_packet(b": DATA0", buffer, count),
-        EventReply::Data1(count) => put_packet(b": DATA1", buffer, count),
+        EventReply::Refused(refusal) => put_refusal(rt, refusal),
+        EventReply::Done => put(rt, b": done"),
+        EventReply::Silence => put(rt, b": silence"),
+        EventReply::Ack => put(rt, b": ACK"),
+        EventReply::Nak => put(rt, b": NAK"),
+        EventReply::Stall => put(rt, b": STALL"),
+        EventReply::Data0(count) => put_packet(rt, b": DATA0", buffer, count),
+        EventReply::Data1(count) => put_packet(rt, b": DATA1", buffer, count),
     }
-    put(b"\n");
+    put(rt, b"\n");
 }
 
 // ---- the host
@@ -50,23 +50,24 @@ const QUIET: Event = Event {
 };
 
 // Makes one call, and writes the reply.
-fn call(chip: Chip, event: Event, payload: &[u8]) -> Chip {
+fn call(rt: &impl Print, chip: Chip, event: Event, payload: &[u8]) -> Chip {
     let mut buffer = [0u8; 64];
     let answer = bus::event(chip, event, payload, &mut buffer);
     let reply = answer.reply;
-    put_reply(reply, &buffer);
+    put_reply(rt, reply, &buffer);
     answer.chip
 }
 
-fn signal(chip: Chip, name: &[u8], code: u8) -> Chip {
-    put(name);
-    call(chip, Event { code, ..QUIET }, b"")
+fn signal(rt: &impl Print, chip: Chip, name: &[u8], code: u8) -> Chip {
+    put(rt, name);
+    call(rt, chip, Event { code, ..QUIET }, b"")
 }
 
-fn setup(chip: Chip, address: u8, payload: &[u8]) -> Chip {
-    put(b"  SETUP");
-    put_bytes(payload);
+fn setup(rt: &impl Print, chip: Chip, address: u8, payload: &[u8]) -> Chip {
+    put(rt, b"  SETUP");
+    put_bytes(rt, payload);
     call(
+        rt,
         chip,
         Event {
             code: 10,
@@ -77,20 +78,27 @@ fn setup(chip: Chip, address: u8, payload: &[u8]) -> Chip {
     )
 }
 
-fn put_out(endpoint: EndpointNumber, data1: bool, payload: &[u8]) {
-    put(b"  OUT");
-    put_byte(endpoint.0);
+fn put_out(rt: &impl Print, endpoint: EndpointNumber, data1: bool, payload: &[u8]) {
+    put(rt, b"  OUT");
+    put_byte(rt, endpoint.0);
     if data1 {
-        put(b" DATA1");
+        put(rt, b" DATA1");
     } else {
-        put(b" DATA0");
+        put(rt, b" DATA0");
     }
-    put_bytes(payload);
+    put_bytes(rt, payload);
 }
 
-fn send_out(chip: Chip, endpoint: EndpointNumber, data1: bool, payload: &[u8]) -> Chip {
-    put_out(endpoint, data1, payload);
+fn send_out(
+    rt: &impl Print,
+    chip: Chip,
+    endpoint: EndpointNumber,
+    data1: bool,
+    payload: &[u8],
+) -> Chip {
+    put_out(rt, endpoint, data1, payload);
     call(
+        rt,
         chip,
         Event {
             code: 11,
@@ -102,13 +110,20 @@ fn send_out(chip: Chip, endpoint: EndpointNumber, data1: bool, payload: &[u8]) -
     )
 }
 
-fn send_in(chip: Chip, address: u8, endpoint: EndpointNumber, acknowledged: bool) -> Chip {
-    put(b"  IN");
-    put_byte(endpoint.0);
+fn send_in(
+    rt: &impl Print,
+    chip: Chip,
+    address: u8,
+    endpoint: EndpointNumber,
+    acknowledged: bool,
+) -> Chip {
+    put(rt, b"  IN");
+    put_byte(rt, endpoint.0);
     if !acknowledged {
-        put(b" (ACK lost)");
+        put(rt, b" (ACK lost)");
     }
     call(
+        rt,
         chip,
         Event {
             code: 12,
@@ -192,99 +207,106 @@ fn connect(mut chip: Chip) -> Chip {
 
 // ---- the exchanges
 
-fn start() -> Chip {
-    put(b"power\n");
+fn start(rt: &impl Print) -> Chip {
+    put(rt, b"power\n");
     let mut c = Chip::power_on();
-    c = signal(c, b"  oscillator stable", 2);
-    c = signal(c, b"  suspend, not connected", 8);
+    c = signal(rt, c, b"  oscillator stable", 2);
+    c = signal(rt, c, b"  suspend, not connected", 8);
     connect(c)
 }
 
-fn read_descriptor(chip: Chip) -> Chip {
-    put(b"control read\n");
-    let mut c = setup(chip, 0, b"\x80\x06\x00\x01\x00\x00\x12\x00");
-    c = send_in(c, 0, EP0, true);
-    put(b"  -- 3 bytes are armed\n");
+fn read_descriptor(rt: &impl Print, chip: Chip) -> Chip {
+    put(rt, b"control read\n");
+    let mut c = setup(rt, chip, 0, b"\x80\x06\x00\x01\x00\x00\x12\x00");
+    c = send_in(rt, c, 0, EP0, true);
+    put(rt, b"  -- 3 bytes are armed\n");
     c = arm_ep0(c, 0xA1, 3);
-    c = send_in(c, 0, EP0, false);
-    c = send_in(c, 0, EP0, true);
-    c = send_out(c, EP0, true, b"");
-    put(b"  -- ACKSTAT is set\n");
+    c = send_in(rt, c, 0, EP0, false);
+    c = send_in(rt, c, 0, EP0, true);
+    c = send_out(rt, c, EP0, true, b"");
+    put(rt, b"  -- ACKSTAT is set\n");
     c = acknowledge(c);
-    send_out(c, EP0, true, b"")
+    send_out(rt, c, EP0, true, b"")
 }
 
-fn write_report(chip: Chip) -> Chip {
-    put(b"control write\n");
-    let mut c = setup(chip, 0, b"\x21\x09\x00\x02\x00\x00\x04\x00");
-    c = send_out(c, EP0, true, b"\x11\x22");
-    c = send_out(c, EP0, false, b"\x33\x44");
-    put(b"  -- the packet is read\n");
+fn write_report(rt: &impl Print, chip: Chip) -> Chip {
+    put(rt, b"control write\n");
+    let mut c = setup(rt, chip, 0, b"\x21\x09\x00\x02\x00\x00\x04\x00");
+    c = send_out(rt, c, EP0, true, b"\x11\x22");
+    c = send_out(rt, c, EP0, false, b"\x33\x44");
+    put(rt, b"  -- the packet is read\n");
     c = clear_out0(c);
-    c = send_out(c, EP0, true, b"\x11\x22");
-    c = send_out(c, EP0, false, b"\x33\x44");
-    c = send_in(c, 0, EP0, true);
-    put(b"  -- ACKSTAT is set\n");
+    c = send_out(rt, c, EP0, true, b"\x11\x22");
+    c = send_out(rt, c, EP0, false, b"\x33\x44");
+    c = send_in(rt, c, 0, EP0, true);
+    put(rt, b"  -- ACKSTAT is set\n");
     c = acknowledge(c);
-    send_in(c, 0, EP0, true)
+    send_in(rt, c, 0, EP0, true)
 }
 
-fn set_address(chip: Chip) -> Chip {
-    put(b"SET_ADDRESS 5, no data\n");
-    let mut c = setup(chip, 0, b"\x00\x05\x05\x00\x00\x00\x00\x00");
+fn set_address(rt: &impl Print, chip: Chip) -> Chip {
+    put(rt, b"SET_ADDRESS 5, no data\n");
+    let mut c = setup(rt, chip, 0, b"\x00\x05\x05\x00\x00\x00\x00\x00");
     c = acknowledge(c);
-    c = send_in(c, 0, EP0, false);
-    put(b"  -- the ACK was lost: still address 0\n");
-    c = send_in(c, 5, EP0, true);
-    c = send_in(c, 0, EP0, true);
-    put(b"  -- address 5: nothing at 0, and at 5 nothing is armed\n");
-    c = send_in(c, 0, EP2, true);
-    send_in(c, 5, EP2, true)
+    c = send_in(rt, c, 0, EP0, false);
+    put(rt, b"  -- the ACK was lost: still address 0\n");
+    c = send_in(rt, c, 5, EP0, true);
+    c = send_in(rt, c, 0, EP0, true);
+    put(
+        rt,
+        b"  -- address 5: nothing at 0, and at 5 nothing is armed\n",
+    );
+    c = send_in(rt, c, 0, EP2, true);
+    send_in(rt, c, 5, EP2, true)
 }
 
-fn buffer_in(chip: Chip) -> Chip {
-    put(b"double buffering, IN\n");
+fn buffer_in(rt: &impl Print, chip: Chip) -> Chip {
+    put(rt, b"double buffering, IN\n");
     let mut c = arm_ep2(chip, 0x01);
     c = arm_ep2(c, 0x02);
-    c = send_in(c, 5, EP2, false);
-    c = send_in(c, 5, EP2, true);
+    c = send_in(rt, c, 5, EP2, false);
+    c = send_in(rt, c, 5, EP2, true);
     c = arm_ep2(c, 0x03);
-    c = send_in(c, 5, EP2, true);
-    c = send_in(c, 5, EP2, true);
-    send_in(c, 5, EP2, true)
+    c = send_in(rt, c, 5, EP2, true);
+    c = send_in(rt, c, 5, EP2, true);
+    send_in(rt, c, 5, EP2, true)
 }
 
-fn reset_bus(chip: Chip) -> Chip {
-    put(b"suspend, activity, and a bus reset with a packet armed\n");
+fn reset_bus(rt: &impl Print, chip: Chip) -> Chip {
+    put(
+        rt,
+        b"suspend, activity, and a bus reset with a packet armed\n",
+    );
     let mut c = arm_ep2(chip, 0x04);
-    c = signal(c, b"  suspend", 8);
-    c = signal(c, b"  activity", 9);
-    c = signal(c, b"  bus reset start", 6);
-    c = signal(c, b"  bus reset end", 7);
-    c = send_in(c, 5, EP2, true);
-    send_in(c, 0, EP2, true)
+    c = signal(rt, c, b"  suspend", 8);
+    c = signal(rt, c, b"  activity", 9);
+    c = signal(rt, c, b"  bus reset start", 6);
+    c = signal(rt, c, b"  bus reset end", 7);
+    c = send_in(rt, c, 5, EP2, true);
+    send_in(rt, c, 0, EP2, true)
 }
 
-fn buffer_out(chip: Chip) -> Chip {
-    put(b"double buffering, OUT\n");
-    let mut c = send_out(chip, EP1, false, b"\x0A");
-    c = send_out(c, EP1, false, b"\x0A");
-    c = send_out(c, EP1, true, b"\x0B");
-    c = send_out(c, EP1, false, b"\x0C");
-    put(b"  -- the older packet is released\n");
+fn buffer_out(rt: &impl Print, chip: Chip) -> Chip {
+    put(rt, b"double buffering, OUT\n");
+    let mut c = send_out(rt, chip, EP1, false, b"\x0A");
+    c = send_out(rt, c, EP1, false, b"\x0A");
+    c = send_out(rt, c, EP1, true, b"\x0B");
+    c = send_out(rt, c, EP1, false, b"\x0C");
+    put(rt, b"  -- the older packet is released\n");
     c = release_ep1(c);
-    c = send_out(c, EP1, false, b"\x0C");
-    send_out(c, EP2, false, b"\x0D")
+    c = send_out(rt, c, EP1, false, b"\x0C");
+    send_out(rt, c, EP2, false, b"\x0D")
 }
 
-fn refusals(chip: Chip) {
-    put(b"refused\n");
+fn refusals(rt: &impl Print, chip: Chip) {
+    put(rt, b"refused\n");
     let mut unsound = chip;
     unsound.registers.epstalls = 0x80;
-    signal(unsound, b"  a record that is not sound", 8);
-    signal(chip, b"  event 13", 13);
-    put(b"  OUT of 65 bytes");
+    signal(rt, unsound, b"  a record that is not sound", 8);
+    signal(rt, chip, b"  event 13", 13);
+    put(rt, b"  OUT of 65 bytes");
     call(
+        rt,
         chip,
         Event {
             code: 11,
@@ -293,19 +315,19 @@ fn refusals(chip: Chip) {
         },
         &[0u8; 65],
     );
-    setup(chip, 0, b"\x80\x06");
-    put(b"  -- at address 128\n");
-    setup(chip, 128, b"\x80\x06");
-    setup(chip, 128, b"\x80\x06\x00\x01\x00\x00\x12\x00");
+    setup(rt, chip, 0, b"\x80\x06");
+    put(rt, b"  -- at address 128\n");
+    setup(rt, chip, 128, b"\x80\x06");
+    setup(rt, chip, 128, b"\x80\x06\x00\x01\x00\x00\x12\x00");
 }
 
-fn main() {
-    let mut c = start();
-    c = read_descriptor(c);
-    c = write_report(c);
-    c = set_address(c);
-    c = buffer_in(c);
-    c = reset_bus(c);
-    c = buffer_out(c);
-    refusals(c);
+fn main(rt: HostRuntime) {
+    let mut c = start(&rt);
+    c = read_descriptor(&rt, c);
+    c = write_report(&rt, c);
+    c = set_address(&rt, c);
+    c = buffer_in(&rt, c);
+    c = reset_bus(&rt, c);
+    c = buffer_out(&rt, c);
+    refusals(&rt, c);
 }

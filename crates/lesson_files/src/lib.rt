@@ -11,6 +11,8 @@ use output::Output;
 use recorder::Recording;
 use refusal::{Checked, Refusal};
 use session::Session;
+use std::io::Read;
+use std::rt::Files;
 
 // What is recorded of a script, and whether it is all of it.
 #[derive(Clone, Copy)]
@@ -20,80 +22,79 @@ struct Recorded {
     whole: bool,
 }
 
-fn empty() -> Output {
-    Output {
-        filled: 0,
-        failed: false,
-    }
-}
-
 // ---- a lesson is played
 
 // Says why a file is not played.
-fn tell_refused(path: &[u8], file: &[u8], refusal: Refusal) {
-    let mut page = io::large_buffer();
-    let begun = output::put(b"max3420e: ", &mut page, empty());
-    let told = lesson_faults::put_refused(path, file, refusal, &mut page, begun);
-    output::tell(&page, told);
+fn tell_refused(err: &impl Print, path: &[u8], file: &[u8], refusal: Refusal) {
+    let mut page = [0u8; 65536];
+    let begun = output::put(err, b"max3420e: ", &mut page, Output::begin());
+    let told = lesson_faults::put_refused(err, path, file, refusal, &mut page, begun);
+    output::tell(err, &page, told);
 }
 
-fn play(path: &[u8], file: &[u8])
+fn play(rt: &impl Print, err: &impl Print, path: &[u8], file: &[u8]) -> bool
     requires { reading_checked (lesson_of file.now) ≡ Accepted }
 {
-    let mut page = io::large_buffer();
-    let played = lesson_console::play(path, file, &mut page, empty());
-    files::finish(&page, played);
+    let mut page = [0u8; 65536];
+    let played = lesson_console::play(rt, path, file, &mut page, Output::begin());
+    files::finish(rt, err, &page, played)
 }
 
-fn play_checked(path: &[u8], file: &[u8]) {
+fn play_checked(rt: &impl Print, err: &impl Print, path: &[u8], file: &[u8]) -> bool {
     match lesson::check(file) {
-        Checked::Refused(refusal) => tell_refused(path, file, refusal),
-        Checked::Accepted => play(path, file),
+        Checked::Refused(refusal) => {
+            tell_refused(err, path, file, refusal);
+            false
+        }
+        Checked::Accepted => play(rt, err, path, file),
     }
 }
 
-// Plays the lesson of a file. One byte more than a lesson has is read, so that a longer file is seen.
-pub fn replay(path: &[u8]) {
+// Plays what is read of a file. One byte more than a lesson has is read, so that a longer file is seen.
+fn replay_file(rt: &impl Print, err: &impl Print, path: &[u8], input: &mut impl Read) -> bool {
     let mut file = [0u8; 65537];
-    let fd = files::open(path);
-    if fd < 0 {
-        return;
-    }
-    let read = files::read_whole(fd, path, &mut file);
-    libc::close(fd);
+    let read = files::read_whole(err, input, path, &mut file);
     if read.failed {
-        return;
+        return false;
     }
     let length = read.length;
-    play_checked(path, &file[..length]);
+    play_checked(rt, err, path, &file[..length])
+}
+
+// Plays the lesson of a file, and answers whether that went well.
+pub fn replay(rt: &(impl Files + Print), err: &impl Print, path: &[u8]) -> bool {
+    match files::open(rt, err, path) {
+        Some(mut input) => replay_file(rt, err, path, &mut input),
+        None => false,
+    }
 }
 
 // ---- a lesson is recorded
 
 // Where a script is wrong.
-fn put_place(path: &[u8], number: u64, page: &mut [u8]) -> Output
+fn put_place(err: &impl Print, path: &[u8], number: u64, page: &mut [u8]) -> Output
     ensures { result.filled ≤ length page.old }
 {
-    let begun = output::put(b"max3420e: ", page, empty());
-    let named = output::put(path, page, begun);
-    let placed = output::put_number(b" line ", number, page, named);
-    output::put(b": ", page, placed)
+    let begun = output::put(err, b"max3420e: ", page, Output::begin());
+    let named = output::put(err, path, page, begun);
+    let placed = output::put_number(err, b" line ", number, page, named);
+    output::put(err, b": ", page, placed)
 }
 
-fn tell_wrong(path: &[u8], number: u64, recording: Recording, line: &[u8]) {
-    let mut page = io::large_buffer();
+fn tell_wrong(err: &impl Print, path: &[u8], number: u64, recording: Recording, line: &[u8]) {
+    let mut page = [0u8; 65536];
     let wrong = recording.wrong;
-    let placed = put_place(path, number, &mut page);
-    let told = recorder::put_wrong(wrong, line, &mut page, placed);
-    let ended = output::put(b"\n", &mut page, told);
-    output::tell(&page, ended);
+    let placed = put_place(err, path, number, &mut page);
+    let told = recorder::put_wrong(err, wrong, line, &mut page, placed);
+    let ended = output::put(err, b"\n", &mut page, told);
+    output::tell(err, &page, ended);
 }
 
-fn tell_long(path: &[u8], number: u64) {
-    let mut page = io::large_buffer();
-    let placed = put_place(path, number, &mut page);
-    let told = output::put(b"a line has at most 16384 bytes\n", &mut page, placed);
-    output::tell(&page, told);
+fn tell_long(err: &impl Print, path: &[u8], number: u64) {
+    let mut page = [0u8; 65536];
+    let placed = put_place(err, path, number, &mut page);
+    let told = output::put(err, b"a line has at most 16384 bytes\n", &mut page, placed);
+    output::tell(err, &page, told);
 }
 
 fn stop(recording: Recording, whole: bool) -> Recorded
@@ -109,7 +110,9 @@ fn stop(recording: Recording, whole: bool) -> Recorded
 
 // Takes the lines of a script to its end, or to the first that is wrong. The turns are counted down as the console's are.
 fn record_lines(
-    fd: i32,
+    rt: &impl Print,
+    err: &impl Print,
+    input: &mut impl Read,
     path: &[u8],
     kinds: &mut [u8],
     ticks: &mut [u32],
@@ -118,23 +121,25 @@ fn record_lines(
 ) -> Recorded
     ensures { (result.count ≤ 255) × (result.size ≤ 65536) }
 {
-    let mut chunk = io::large_buffer();
+    let mut chunk = [0u8; 65536];
     let mut line = [0u8; 16386];
     let mut bytes = [0u8; 16384];
     // Nothing is answered: what the session puts here is not written.
-    let mut page = io::large_buffer();
-    let mut session = Session::begin(fd);
+    let mut page = [0u8; 65536];
+    let mut session = Session::begin();
     let mut recording = Recording::begin();
     let mut turns = u64::MAX;
     while 0 < turns {
         turns -= 1;
-        session = session::next(session, path, &mut chunk, &mut line, &mut page);
+        session = session::next(
+            rt, err, session, input, path, &mut chunk, &mut line, &mut page,
+        );
         if session.over {
             return stop(recording, !session.broken);
         }
         let number = session.number;
         if session.long {
-            tell_long(path, number);
+            tell_long(err, path, number);
             return stop(recording, false);
         }
         let length = session.length;
@@ -148,7 +153,7 @@ fn record_lines(
             bodies,
         );
         if recording.is_wrong() {
-            tell_wrong(path, number, recording, &line[..length]);
+            tell_wrong(err, path, number, recording, &line[..length]);
             return stop(recording, false);
         }
     }
@@ -156,58 +161,85 @@ fn record_lines(
 }
 
 // Says what is recorded.
-fn tell_recorded(path: &[u8], count: usize, size: usize) {
-    let mut page = io::large_buffer();
-    let told = lesson_console::put_recorded(path, count, size, &mut page, empty());
-    files::finish(&page, told);
+fn tell_recorded(
+    rt: &impl Print,
+    err: &impl Print,
+    path: &[u8],
+    count: usize,
+    size: usize,
+) -> bool {
+    let mut page = [0u8; 65536];
+    let told = lesson_console::put_recorded(rt, path, count, size, &mut page, Output::begin());
+    files::finish(rt, err, &page, told)
 }
 
 // Writes the file of a lesson. What was recorded is one, so that nothing is refused.
-fn write_lesson(path: &[u8], kinds: &[u8], ticks: &[u32], lengths: &[u16], bodies: &[u8]) {
-    let mut file = io::large_buffer();
+fn write_lesson(
+    rt: &(impl Files + Print),
+    err: &impl Print,
+    path: &[u8],
+    kinds: &[u8],
+    ticks: &[u32],
+    lengths: &[u16],
+    bodies: &[u8],
+) -> bool {
+    let mut file = [0u8; 65536];
     match lesson_writer::write(kinds, ticks, lengths, bodies, &mut file) {
         WriterReply::Refused(_refusal) => {
-            io::write_all(
-                libc::STDERR_FILENO,
-                b"max3420e: what was recorded is no lesson\n",
-            );
+            let _ = err.write_all(b"max3420e: what was recorded is no lesson\n");
+            false
         }
         WriterReply::Written(size) => {
-            if files::overwrite(path, &file[..size]) {
-                tell_recorded(path, kinds.len(), size);
+            if files::overwrite(rt, err, path, &file[..size]) {
+                return tell_recorded(rt, err, path, kinds.len(), size);
             }
+            false
         }
     }
 }
 
-// Writes the lesson of a script to a file, or nothing where the script is wrong.
-pub fn record(script: &[u8], path: &[u8]) {
+// Writes the lesson of a script that is read to a file, or nothing where the script is wrong.
+fn record_file(
+    rt: &(impl Files + Print),
+    err: &impl Print,
+    script: &[u8],
+    input: &mut impl Read,
+    path: &[u8],
+) -> bool {
     let mut kinds = [0u8; 255];
     let mut ticks = [0u32; 255];
     let mut lengths = [0u16; 255];
-    let mut bodies = io::large_buffer();
-    let fd = files::open(script);
-    if fd < 0 {
-        return;
-    }
+    let mut bodies = [0u8; 65536];
     let recorded = record_lines(
-        fd,
+        rt,
+        err,
+        input,
         script,
         &mut kinds,
         &mut ticks,
         &mut lengths,
         &mut bodies,
     );
-    libc::close(fd);
     if recorded.whole {
         let count = recorded.count;
         let size = recorded.size;
-        write_lesson(
+        return write_lesson(
+            rt,
+            err,
             path,
             &kinds[..count],
             &ticks[..count],
             &lengths[..count],
             &bodies[..size],
         );
+    }
+    false
+}
+
+// Writes the lesson of a script to a file, and answers whether that went well.
+pub fn record(rt: &(impl Files + Print), err: &impl Print, script: &[u8], path: &[u8]) -> bool {
+    match files::open(rt, err, script) {
+        Some(mut input) => record_file(rt, err, script, &mut input, path),
+        None => false,
     }
 }

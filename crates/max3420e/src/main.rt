@@ -5,6 +5,11 @@
 use console::Console;
 use roster::Roster;
 use session::Session;
+use std::env::FillError;
+use std::io;
+use std::io::{IsTerminal, Read};
+use std::process::ExitCode;
+use std::rt::{Env, Files};
 
 // What the first argument asks for.
 #[derive(Clone, Copy)]
@@ -15,54 +20,73 @@ enum Asked {
     Record,
 }
 
+// The system's number for a name that is too long.
+const NAME_TOO_LONG: i32 = 36;
+
 const USAGE: [u8; 218] =
     *b"max3420e: one file at most: max3420e [FILE], or max3420e classroom [FILE]; \
     a lesson: max3420e replay FILE, or max3420e record SCRIPT FILE; \
     a file called classroom, replay or record is ./classroom, ./replay or ./record\n";
 
 // What stands on the page before the first line, where a person types.
-fn greet(session: Session, taught: bool, page: &mut [u8]) -> Session {
+fn greet(rt: &impl Print, session: Session, taught: bool, page: &mut [u8]) -> Session {
     let mut next = session;
     if taught {
-        let greeted = messages::put_classroom_greeting(page, session.output);
+        let greeted = messages::put_classroom_greeting(rt, page, session.output);
         next.output = greeted;
         return next;
     }
-    let greeted = messages::put_greeting(page, session.output);
+    let greeted = messages::put_greeting(rt, page, session.output);
     next.output = greeted;
     next
 }
 
-fn begin(fd: i32, taught: bool, typed: bool, page: &mut [u8]) -> Session {
-    let session = Session::begin(fd);
+fn begin(rt: &impl Print, taught: bool, typed: bool, page: &mut [u8]) -> Session {
+    let session = Session::begin();
     if typed {
-        return greet(session, taught, page);
+        return greet(rt, session, taught, page);
     }
     session
 }
 
+// Whether all was read and written.
+fn went_well(session: Session) -> bool {
+    let output = session.output;
+    !session.broken & !output.failed
+}
+
 // A proved loop has to end, and nothing says that a file does. So the loop counts its turns down, from a number that no run uses up. Both
 // consoles are held side by side, so that one that is not used is not copied.
-fn run(fd: i32, path: &[u8], taught: bool, typed: bool) {
-    let mut chunk = io::large_buffer();
+fn run(
+    rt: &impl Print,
+    err: &impl Print,
+    input: &mut impl Read,
+    path: &[u8],
+    taught: bool,
+    typed: bool,
+) -> bool {
+    let mut chunk = [0u8; 65536];
     let mut line = [0u8; 16386];
     let mut bytes = [0u8; 16384];
-    let mut page = io::large_buffer();
-    let mut session = begin(fd, taught, typed, &mut page);
+    let mut page = [0u8; 65536];
+    let mut session = begin(rt, taught, typed, &mut page);
     let mut console = Console::power_on();
     let mut roster = Roster::start();
     let mut turns = u64::MAX;
     while 0 < turns {
         turns -= 1;
-        session = session::next(session, path, &mut chunk, &mut line, &mut page);
+        session = session::next(
+            rt, err, session, input, path, &mut chunk, &mut line, &mut page,
+        );
         if session.over {
-            return;
+            return went_well(session);
         }
         let number = session.number;
         let length = session.length;
         let output = session.output;
         if taught {
             roster = classroom_console::take_line(
+                rt,
                 roster,
                 number,
                 &line[..length],
@@ -75,6 +99,7 @@ fn run(fd: i32, path: &[u8], taught: bool, typed: bool) {
             continue;
         }
         console = console::take_line(
+            rt,
             console,
             number,
             &line[..length],
@@ -85,93 +110,128 @@ fn run(fd: i32, path: &[u8], taught: bool, typed: bool) {
         let answered = console.output;
         session.output = answered;
     }
+    went_well(session)
 }
 
-fn tell_usage() {
-    io::write_all(libc::STDERR_FILENO, &USAGE);
+fn tell_usage(err: &impl Print) {
+    let _ = err.write_all(&USAGE);
 }
 
-fn tell_name() {
-    os::fail(b"max3420e: the file's name");
+// The only thing that can be wrong with a name that is there.
+fn tell_name(err: &impl Print) {
+    output::tell_failure(
+        err,
+        b"max3420e: the file's name",
+        io::Error::from_raw_os_error(NAME_TOO_LONG),
+    );
+}
+
+// Whether there is such an argument.
+fn is_given(rt: &impl Env, argument: usize) -> bool {
+    let mut word = [0u8; 1];
+    match rt.arg(argument, &mut word) {
+        Err(FillError::NotPresent) => false,
+        _ => true,
+    }
+}
+
+// How many arguments there are, the program's name among them: five where there are more.
+fn arg_count(rt: &impl Env) -> usize {
+    let mut count: usize = 0;
+    while count < 5 {
+        if !is_given(rt, count) {
+            return count;
+        }
+        count += 1;
+    }
+    count
 }
 
 // Runs on the file that an argument names.
-fn run_file(argument: usize, taught: bool) {
-    let mut path = io::buffer();
-    let length = os::arg(argument, &mut path);
-    if os::errno() != 0 {
-        tell_name();
-        return;
+fn run_file(
+    rt: &(impl Env + Files + Print),
+    err: &impl Print,
+    argument: usize,
+    taught: bool,
+) -> bool {
+    let mut path = [0u8; 4096];
+    match rt.arg(argument, &mut path) {
+        Ok(length) => match files::open(rt, err, &path[..length]) {
+            Some(mut input) => run(rt, err, &mut input, &path[..length], taught, false),
+            None => false,
+        },
+        Err(_) => {
+            tell_name(err);
+            false
+        }
     }
-    let fd = files::open(&path[..length]);
-    if fd < 0 {
-        return;
-    }
-    run(fd, &path[..length], taught, false);
-    libc::close(fd);
 }
 
 // The console on a file or, with no argument at that place, on standard input.
-fn run_console(place: usize, taught: bool) {
-    let count = os::arg_count();
+fn run_console(
+    rt: &(impl Env + Files + Input + Print),
+    err: &impl Print,
+    place: usize,
+    taught: bool,
+    typed: bool,
+) -> bool {
+    let count = arg_count(rt);
     if count <= place {
-        run(
-            libc::STDIN_FILENO,
-            b"standard input",
-            taught,
-            libc::isatty(libc::STDIN_FILENO) == 1,
-        );
-        return;
+        let mut input = rt.reader();
+        return run(rt, err, &mut input, b"standard input", taught, typed);
     }
     if count - place == 1 {
-        run_file(place, taught);
-        return;
+        return run_file(rt, err, place, taught);
     }
-    tell_usage();
+    tell_usage(err);
+    false
 }
 
-fn replay() {
-    let mut path = io::buffer();
-    if os::arg_count() != 3 {
-        tell_usage();
-        return;
+fn replay(rt: &(impl Env + Files + Print), err: &impl Print) -> bool {
+    let mut path = [0u8; 4096];
+    if arg_count(rt) != 3 {
+        tell_usage(err);
+        return false;
     }
-    let length = os::arg(2, &mut path);
-    if os::errno() != 0 {
-        tell_name();
-        return;
+    match rt.arg(2, &mut path) {
+        Ok(length) => lesson_files::replay(rt, err, &path[..length]),
+        Err(_) => {
+            tell_name(err);
+            false
+        }
     }
-    lesson_files::replay(&path[..length]);
 }
 
 // The script that the second argument names is recorded in the file that the third does.
-fn record_script(script: &[u8]) {
-    let mut path = io::buffer();
-    let length = os::arg(3, &mut path);
-    if os::errno() != 0 {
-        tell_name();
-        return;
+fn record_script(rt: &(impl Env + Files + Print), err: &impl Print, script: &[u8]) -> bool {
+    let mut path = [0u8; 4096];
+    match rt.arg(3, &mut path) {
+        Ok(length) => lesson_files::record(rt, err, script, &path[..length]),
+        Err(_) => {
+            tell_name(err);
+            false
+        }
     }
-    lesson_files::record(script, &path[..length]);
 }
 
-fn record() {
-    let mut script = io::buffer();
-    if os::arg_count() != 4 {
-        tell_usage();
-        return;
+fn record(rt: &(impl Env + Files + Print), err: &impl Print) -> bool {
+    let mut script = [0u8; 4096];
+    if arg_count(rt) != 4 {
+        tell_usage(err);
+        return false;
     }
-    let length = os::arg(2, &mut script);
-    if os::errno() != 0 {
-        tell_name();
-        return;
+    match rt.arg(2, &mut script) {
+        Ok(length) => record_script(rt, err, &script[..length]),
+        Err(_) => {
+            tell_name(err);
+            false
+        }
     }
-    record_script(&script[..length]);
 }
 
-fn read_asked() -> Asked {
-    let mut word = io::buffer();
-    let length = os::arg(1, &mut word);
+fn read_asked(rt: &impl Env) -> Asked {
+    let mut word = [0u8; 4096];
+    let length = rt.arg(1, &mut word).unwrap_or(0);
     if words::is_name(&word[..length], b"classroom") {
         return Asked::Classroom;
     }
@@ -184,11 +244,23 @@ fn read_asked() -> Asked {
     Asked::Console
 }
 
-fn main() {
-    match read_asked() {
-        Asked::Console => run_console(1, false),
-        Asked::Classroom => run_console(2, true),
-        Asked::Replay => replay(),
-        Asked::Record => record(),
+// Does what the arguments ask for, and answers whether that went well.
+fn start(rt: &(impl Env + Files + Input + Print), err: &impl Print, typed: bool) -> bool {
+    match read_asked(rt) {
+        Asked::Console => run_console(rt, err, 1, false, typed),
+        Asked::Classroom => run_console(rt, err, 2, true, typed),
+        Asked::Replay => replay(rt, err),
+        Asked::Record => record(rt, err),
+    }
+}
+
+// The status is 1 where something that was to be read or written was not.
+fn main(rt: HostRuntime) -> ExitCode {
+    let input = rt.stdin();
+    let err = rt.stderr();
+    if start(&rt, &err, input.is_terminal()) {
+        ExitCode::SUCCESS
+    } else {
+        ExitCode::FAILURE
     }
 }

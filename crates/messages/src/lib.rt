@@ -42,48 +42,52 @@ const CLASSROOM_HELP: [u8; 632] = *b"\x20 Line            Example               
     \x20 help            help                   these lines\n\
     \x20 A desk is a decimal number, 0 to 15; a key is one to eight hex digits, not 0; # starts a comment.\n";
 
-pub fn put_greeting(page: &mut [u8], output: Output) -> Output
+pub fn put_greeting(rt: &impl Print, page: &mut [u8], output: Output) -> Output
     ensures { result.filled ≤ length page.old }
 {
     output::put(
+        rt,
         b" A MAX3420E at power-on. Type help for the lines it takes; end with control-D.\n",
         page,
         output,
     )
 }
 
-pub fn put_help(page: &mut [u8], output: Output) -> Output
+pub fn put_help(rt: &impl Print, page: &mut [u8], output: Output) -> Output
     ensures { result.filled ≤ length page.old }
 {
-    output::put(&HELP, page, output)
+    output::put(rt, &HELP, page, output)
 }
 
-pub fn put_classroom_greeting(page: &mut [u8], output: Output) -> Output
+pub fn put_classroom_greeting(rt: &impl Print, page: &mut [u8], output: Output) -> Output
     ensures { result.filled ≤ length page.old }
 {
     output::put(
+        rt,
         b" Sixteen desks, all closed. Type help for the lines it takes; end with control-D.\n",
         page,
         output,
     )
 }
 
-pub fn put_classroom_help(page: &mut [u8], output: Output) -> Output
+pub fn put_classroom_help(rt: &impl Print, page: &mut [u8], output: Output) -> Output
     ensures { result.filled ≤ length page.old }
 {
-    output::put(&CLASSROOM_HELP, page, output)
+    output::put(rt, &CLASSROOM_HELP, page, output)
 }
 
 // What a line that names no call should start with.
-fn put_lines(page: &mut [u8], output: Output) -> Output
+fn put_lines(rt: &impl Print, page: &mut [u8], output: Output) -> Output
     ensures { result.filled ≤ length page.old }
 {
     let next = output::put(
+        rt,
         b"a line starts with spi, power, stable, vbus, pins, reset, suspend, activity, ",
         page,
         output,
     );
     output::put(
+        rt,
         b"setup, out, in, event, step, room, show or help",
         page,
         next,
@@ -91,10 +95,11 @@ fn put_lines(page: &mut [u8], output: Output) -> Output
 }
 
 // The same in a classroom.
-fn put_orders(page: &mut [u8], output: Output) -> Output
+fn put_orders(rt: &impl Print, page: &mut [u8], output: Output) -> Output
     ensures { result.filled ≤ length page.old }
 {
     output::put(
+        rt,
         b"a line starts with a desk's number, open, close, desks or help",
         page,
         output,
@@ -102,87 +107,110 @@ fn put_orders(page: &mut [u8], output: Output) -> Output
 }
 
 // The same in the script of a lesson, which has calls of the chip only.
-fn put_entries(page: &mut [u8], output: Output) -> Output
+fn put_entries(rt: &impl Print, page: &mut [u8], output: Output) -> Output
     ensures { result.filled ≤ length page.old }
 {
     let next = output::put(
+        rt,
         b"a line of a lesson starts with spi, power, stable, vbus, pins, reset, suspend, activity, ",
         page,
         output,
     );
-    output::put(b"setup, out, in, event or tick", page, next)
+    output::put(rt, b"setup, out, in, event or tick", page, next)
 }
 
-fn put_expected(expected: Expected, page: &mut [u8], output: Output) -> Output
+fn put_expected(rt: &impl Print, expected: Expected, page: &mut [u8], output: Output) -> Output
     ensures { result.filled ≤ length page.old }
 {
     match expected {
-        Expected::Line => put_lines(page, output),
-        Expected::Byte => output::put(b"a byte is one or two hex digits", page, output),
-        Expected::Switch => output::put(b"vbus goes on or off", page, output),
-        Expected::Edge => output::put(b"a reset has a start or an end", page, output),
-        Expected::Pins => output::put(b"pins are one or two hex digits", page, output),
-        Expected::Code => output::put(b"an event code is one or two hex digits", page, output),
-        Expected::Address => output::put(b"an address is one or two hex digits", page, output),
-        Expected::Endpoint => output::put(b"an endpoint is one or two hex digits", page, output),
-        Expected::Toggle => output::put(b"an OUT packet is data0 or data1", page, output),
-        Expected::Room => output::put(b"a room is a decimal number", page, output),
-        Expected::End => output::put(b"the line should end here", page, output),
-        Expected::Order => put_orders(page, output),
-        Expected::Desk => output::put(b"a desk is a decimal number", page, output),
-        Expected::Key => output::put(b"a key is one to eight hex digits", page, output),
-        Expected::Entry => put_entries(page, output),
-        Expected::Tick => output::put(b"a tick is a decimal number, 0 to 4294967295", page, output),
+        Expected::Line => put_lines(rt, page, output),
+        Expected::Byte => output::put(rt, b"a byte is one or two hex digits", page, output),
+        Expected::Switch => output::put(rt, b"vbus goes on or off", page, output),
+        Expected::Edge => output::put(rt, b"a reset has a start or an end", page, output),
+        Expected::Pins => output::put(rt, b"pins are one or two hex digits", page, output),
+        Expected::Code => output::put(rt, b"an event code is one or two hex digits", page, output),
+        Expected::Address => output::put(rt, b"an address is one or two hex digits", page, output),
+        Expected::Endpoint => output::put(
+            rt,
+            b"an endpoint is one or two hex digits",
+            page,
+            output,
+        ),
+        Expected::Toggle => output::put(rt, b"an OUT packet is data0 or data1", page, output),
+        Expected::Room => output::put(rt, b"a room is a decimal number", page, output),
+        Expected::End => output::put(rt, b"the line should end here", page, output),
+        Expected::Order => put_orders(rt, page, output),
+        Expected::Desk => output::put(rt, b"a desk is a decimal number", page, output),
+        Expected::Key => output::put(rt, b"a key is one to eight hex digits", page, output),
+        Expected::Entry => put_entries(rt, page, output),
+        Expected::Tick => output::put(
+            rt,
+            b"a tick is a decimal number, 0 to 4294967295",
+            page,
+            output,
+        ),
     }
 }
 
 // A byte of a word: itself where it can be read.
-fn put_glyph(byte: u8, page: &mut [u8], output: Output) -> Output
+fn put_glyph(rt: &impl Print, byte: u8, page: &mut [u8], output: Output) -> Output
     ensures { result.filled ≤ length page.old }
 {
     if (byte < 33) | (126 < byte) {
-        return output::put(b"?", page, output);
+        return output::put(rt, b"?", page, output);
     }
-    output::put(&[byte], page, output)
+    output::put(rt, &[byte], page, output)
 }
 
 // A word between quotation marks, cut where it is long.
-fn put_word(word: &[u8], page: &mut [u8], output: Output) -> Output
+fn put_word(rt: &impl Print, word: &[u8], page: &mut [u8], output: Output) -> Output
     ensures { result.filled ≤ length page.old }
 {
-    let mut next = output::put(b", not '", page, output);
+    let mut next = output::put(rt, b", not '", page, output);
     let mut i: usize = 0;
     while i < word.len() {
         if WORD <= i {
-            return output::put(b"..'", page, next);
+            return output::put(rt, b"..'", page, next);
         }
-        next = put_glyph(word[i], page, next);
+        next = put_glyph(rt, word[i], page, next);
         i += 1;
     }
-    output::put(b"'", page, next)
+    output::put(rt, b"'", page, next)
 }
 
 // What was expected, and the word that stands there.
-pub fn put_reason(fault: Fault, line: &[u8], page: &mut [u8], output: Output) -> Output
+pub fn put_reason(
+    rt: &impl Print,
+    fault: Fault,
+    line: &[u8],
+    page: &mut [u8],
+    output: Output,
+) -> Output
     ensures { result.filled ≤ length page.old }
 {
     let expected = fault.expected;
     let start = fault.start;
     let end = fault.end;
-    let next = put_expected(expected, page, output);
+    let next = put_expected(rt, expected, page, output);
     if end <= start {
-        return output::put(b", but the line ends", page, next);
+        return output::put(rt, b", but the line ends", page, next);
     }
     if line.len() < end {
         return next;
     }
-    put_word(&line[start..end], page, next)
+    put_word(rt, &line[start..end], page, next)
 }
 
 // The same as an answer.
-pub fn put_fault(fault: Fault, line: &[u8], page: &mut [u8], output: Output) -> Output
+pub fn put_fault(
+    rt: &impl Print,
+    fault: Fault,
+    line: &[u8],
+    page: &mut [u8],
+    output: Output,
+) -> Output
     ensures { result.filled ≤ length page.old }
 {
-    let lead = output::put(b"error: ", page, output);
-    put_reason(fault, line, page, lead)
+    let lead = output::put(rt, b"error: ", page, output);
+    put_reason(rt, fault, line, page, lead)
 }

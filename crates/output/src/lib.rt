@@ -1,8 +1,12 @@
 // Text goes to a lent page, and from there to standard output when the page is full or at a flush. Nothing is lost and no
 // call has a precondition; a write that fails is remembered. What a program tells of itself goes to standard error by `tell`.
+// The handle of a call is what the page is written to.
 #![tactic(auto)]
 
 ghost use Rattle.std.specs.Prelude.{◌≡◌, ◌≤◌, length};
+
+use std::fmt::InlineText;
+use std::io;
 
 #[derive(Clone, Copy)]
 pub struct Output {
@@ -10,10 +14,30 @@ pub struct Output {
     pub filled: usize,
     // A write failed: nothing is written from then on.
     pub failed: bool,
+    // Why it failed: the system's number of the error, where it has one.
+    pub error: i32,
 }
 
-// Writes what stands on the page to a file that is open.
-fn write_page(fd: i32, page: &[u8], output: Output) -> Output
+impl Output {
+    // Nothing waits, and nothing has failed.
+    pub fn begin() -> Self
+        ensures { result.filled ≡ 0 }
+    {
+        Output {
+            filled: 0,
+            failed: false,
+            error: 0,
+        }
+    }
+
+    // Why a write failed.
+    pub fn reason(self) -> io::Error {
+        io::Error::from_raw_os_error(self.error)
+    }
+}
+
+// Writes what stands on the page to an open stream.
+fn write_page(rt: &impl Print, page: &[u8], output: Output) -> Output
     ensures { result.filled ≡ 0 }
 {
     let mut next = output;
@@ -25,22 +49,39 @@ fn write_page(fd: i32, page: &[u8], output: Output) -> Output
     if page.len() < filled {
         return next;
     }
-    next.failed = !io::write_all(fd, &page[..filled]);
+    if let Err(error) = rt.write_all(&page[..filled]) {
+        next.failed = true;
+        next.error = error.raw_os_error().unwrap_or(0);
+    }
     next
 }
 
 // Writes what stands on the page.
-pub fn flush(page: &[u8], output: Output) -> Output
+pub fn flush(rt: &impl Print, page: &[u8], output: Output) -> Output
     ensures { result.filled ≡ 0 }
 {
-    write_page(libc::STDOUT_FILENO, page, output)
+    write_page(rt, page, output)
 }
 
 // The same to standard error.
-pub fn tell(page: &[u8], output: Output) -> Output
+pub fn tell(err: &impl Print, page: &[u8], output: Output) -> Output
     ensures { result.filled ≡ 0 }
 {
-    write_page(libc::STDERR_FILENO, page, output)
+    write_page(err, page, output)
+}
+
+// A line on standard error: what failed, and the system's words for why.
+pub fn tell_failure(err: &impl Print, what: &[u8], error: io::Error) {
+    let told = InlineText::<160>::of(error);
+    let text = told.as_str();
+    let reason = match text.split_once(" (os error ") {
+        Some((words, _number)) => words,
+        None => text,
+    };
+    let _ = err.write_all(what);
+    let _ = err.write_all(b": ");
+    let _ = err.write_all(reason.as_bytes());
+    let _ = err.write_all(b"\n");
 }
 
 // Puts text of the page's length at most where the page has been filled to.
@@ -63,7 +104,7 @@ fn store(text: &[u8], page: &mut [u8], output: Output) -> Output
 }
 
 // Puts text.
-pub fn put(text: &[u8], page: &mut [u8], output: Output) -> Output
+pub fn put(rt: &impl Print, text: &[u8], page: &mut [u8], output: Output) -> Output
     ensures { result.filled ≤ length page.old }
 {
     let length = page.len();
@@ -73,81 +114,107 @@ pub fn put(text: &[u8], page: &mut [u8], output: Output) -> Output
             return store(text, page, output);
         }
     }
-    let next = flush(page, output);
+    let next = flush(rt, page, output);
     if text.len() <= length {
         return store(text, page, next);
     }
     let mut last = flush(
+        rt,
         text,
         Output {
             filled: text.len(),
             failed: next.failed,
+            error: next.error,
         },
     );
     last.filled = 0;
     last
 }
 
-pub fn put_decimal(number: u64, page: &mut [u8], output: Output) -> Output
+pub fn put_decimal(rt: &impl Print, number: u64, page: &mut [u8], output: Output) -> Output
     ensures { result.filled ≤ length page.old }
 {
-    let mut digits = [0u8; 20];
-    let count = io::decimal(number, &mut digits);
-    put(&digits[..count], page, output)
+    let digits = InlineText::<20>::of(number);
+    put(rt, digits.as_str().as_bytes(), page, output)
 }
 
 // Text, and a number after it.
-pub fn put_number(text: &[u8], number: u64, page: &mut [u8], output: Output) -> Output
+pub fn put_number(
+    rt: &impl Print,
+    text: &[u8],
+    number: u64,
+    page: &mut [u8],
+    output: Output,
+) -> Output
     ensures { result.filled ≤ length page.old }
 {
-    let next = put(text, page, output);
-    put_decimal(number, page, next)
+    let next = put(rt, text, page, output);
+    put_decimal(rt, number, page, next)
 }
 
 // A number, and what there are so many of: one word for one, another for none or more.
-pub fn put_count(number: u64, one: &[u8], more: &[u8], page: &mut [u8], output: Output) -> Output
+pub fn put_count(
+    rt: &impl Print,
+    number: u64,
+    one: &[u8],
+    more: &[u8],
+    page: &mut [u8],
+    output: Output,
+) -> Output
     ensures { result.filled ≤ length page.old }
 {
-    let next = put_decimal(number, page, output);
+    let next = put_decimal(rt, number, page, output);
     if number == 1 {
-        return put(one, page, next);
+        return put(rt, one, page, next);
     }
-    put(more, page, next)
+    put(rt, more, page, next)
 }
 
 // A byte as two upper-case hex digits.
-pub fn put_hex(byte: u8, page: &mut [u8], output: Output) -> Output
+pub fn put_hex(rt: &impl Print, byte: u8, page: &mut [u8], output: Output) -> Output
     ensures { result.filled ≤ length page.old }
 {
     let digits = numerals::hex_pair(byte);
-    put(&digits, page, output)
+    put(rt, &digits, page, output)
 }
 
 // The first bytes of some as hex digits, a blank before each.
-pub fn put_bytes(some: &[u8], count: usize, page: &mut [u8], output: Output) -> Output
+pub fn put_bytes(
+    rt: &impl Print,
+    some: &[u8],
+    count: usize,
+    page: &mut [u8],
+    output: Output,
+) -> Output
     ensures { result.filled ≤ length page.old }
 {
-    let mut next = put(b"", page, output);
+    let mut next = put(rt, b"", page, output);
     let mut i: usize = 0;
     while i < some.len() {
         if count <= i {
             return next;
         }
-        let spaced = put(b" ", page, next);
-        next = put_hex(some[i], page, spaced);
+        let spaced = put(rt, b" ", page, next);
+        next = put_hex(rt, some[i], page, spaced);
         i += 1;
     }
     next
 }
 
 // Text in a column so wide: blanks follow.
-pub fn put_column(text: &[u8], width: usize, page: &mut [u8], output: Output) -> Output
+pub fn put_column(
+    rt: &impl Print,
+    text: &[u8],
+    width: usize,
+    page: &mut [u8],
+    output: Output,
+) -> Output
     ensures { result.filled ≤ length page.old }
 {
-    let mut next = put(text, page, output);
+    let mut next = put(rt, text, page, output);
     let mut i = text.len();
     while i < width {
-        next = put(b" ", page, next);
+        next = put(rt, b" ", page, next);
         i += 1;
     }
     next

@@ -247,13 +247,19 @@ pub fn take_line(
 }
 
 // Why a line is not recorded.
-pub fn put_wrong(wrong: Wrong, line: &[u8], page: &mut [u8], output: Output) -> Output
+pub fn put_wrong(
+    rt: &impl Print,
+    wrong: Wrong,
+    line: &[u8],
+    page: &mut [u8],
+    output: Output,
+) -> Output
     ensures { result.filled ≤ length page.old }
 {
     match wrong {
-        Wrong::Nothing => output::put(b"", page, output),
-        Wrong::Line(fault) => messages::put_reason(fault, line, page, output),
-        Wrong::Entries => output::put(b"a lesson has at most 255 entries", page, output),
-        Wrong::Size => output::put(b"a lesson has at most 65536 bytes", page, output),
+        Wrong::Nothing => output::put(rt, b"", page, output),
+        Wrong::Line(fault) => messages::put_reason(rt, fault, line, page, output),
+        Wrong::Entries => output::put(rt, b"a lesson has at most 255 entries", page, output),
+        Wrong::Size => output::put(rt, b"a lesson has at most 65536 bytes", page, output),
     }
 }

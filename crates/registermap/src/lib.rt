@@ -95,15 +95,22 @@ fn read_register(chip: Chip, register: u8) -> u8 {
 }
 
 // A name of a table, in a column so wide.
-fn put_name(names: &[u8], index: usize, width: usize, page: &mut [u8], output: Output) -> Output
+fn put_name(
+    rt: &impl Print,
+    names: &[u8],
+    index: usize,
+    width: usize,
+    page: &mut [u8],
+    output: Output,
+) -> Output
     ensures { result.filled ≤ length page.old }
 {
     if index < names.len() / CELL {
         let start = CELL * index;
         let end = octets::find(names, start, start + CELL, b' ');
-        return output::put_column(&names[start..end], width, page, output);
+        return output::put_column(rt, &names[start..end], width, page, output);
     }
-    output::put(b"", page, output)
+    output::put(rt, b"", page, output)
 }
 
 // Where the names of a register's bits start.
@@ -117,66 +124,72 @@ fn first_bit(register: u8) -> usize
 }
 
 // The name of a bit, if it is 1.
-fn put_bit(one: bool, index: usize, page: &mut [u8], output: Output) -> Output
+fn put_bit(rt: &impl Print, one: bool, index: usize, page: &mut [u8], output: Output) -> Output
     ensures { result.filled ≤ length page.old }
 {
     if one {
-        let spaced = output::put(b" ", page, output);
-        return put_name(&BITS, index, 0, page, spaced);
+        let spaced = output::put(rt, b" ", page, output);
+        return put_name(rt, &BITS, index, 0, page, spaced);
     }
-    output::put(b"", page, output)
+    output::put(rt, b"", page, output)
 }
 
 // The names of a register's bits that are 1.
-fn put_bits(register: u8, value: u8, page: &mut [u8], output: Output) -> Output
+fn put_bits(rt: &impl Print, register: u8, value: u8, page: &mut [u8], output: Output) -> Output
     ensures { result.filled ≤ length page.old }
 {
     if (register < 9) | (register == 19) | (value == 0) {
-        return output::put(b"", page, output);
+        return output::put(rt, b"", page, output);
     }
-    let mut next = output::put(b" ", page, output);
+    let mut next = output::put(rt, b" ", page, output);
     let row = first_bit(register);
     let mut mask: u8 = 128;
     let mut i: usize = 0;
     while i < 8 {
-        next = put_bit(value & mask != 0, row + i, page, next);
+        next = put_bit(rt, value & mask != 0, row + i, page, next);
         mask = mask / 2;
         i += 1;
     }
     next
 }
 
-fn put_number(register: u8, page: &mut [u8], output: Output) -> Output
+fn put_number(rt: &impl Print, register: u8, page: &mut [u8], output: Output) -> Output
     ensures { result.filled ≤ length page.old }
 {
-    let lead = output::put(b"  R", page, output);
-    let numbered = output::put_decimal(register as u64, page, lead);
+    let lead = output::put(rt, b"  R", page, output);
+    let numbered = output::put_decimal(rt, register as u64, page, lead);
     if register < 10 {
-        return output::put(b"   ", page, numbered);
+        return output::put(rt, b"   ", page, numbered);
     }
-    output::put(b"  ", page, numbered)
+    output::put(rt, b"  ", page, numbered)
 }
 
 // A line for a register: its number, its name, its value and its bits that are 1.
-fn put_register(chip: Chip, register: u8, page: &mut [u8], output: Output) -> Output
+fn put_register(
+    rt: &impl Print,
+    chip: Chip,
+    register: u8,
+    page: &mut [u8],
+    output: Output,
+) -> Output
     ensures { result.filled ≤ length page.old }
 {
     let value = read_register(chip, register);
-    let numbered = put_number(register, page, output);
-    let named = put_name(&NAMES, register as usize, 12, page, numbered);
-    let valued = output::put_hex(value, page, named);
-    let next = put_bits(register, value, page, valued);
-    output::put(b"\n", page, next)
+    let numbered = put_number(rt, register, page, output);
+    let named = put_name(rt, &NAMES, register as usize, 12, page, numbered);
+    let valued = output::put_hex(rt, value, page, named);
+    let next = put_bits(rt, register, value, page, valued);
+    output::put(rt, b"\n", page, next)
 }
 
 // R0 to R20.
-pub fn put_registers(chip: Chip, page: &mut [u8], output: Output) -> Output
+pub fn put_registers(rt: &impl Print, chip: Chip, page: &mut [u8], output: Output) -> Output
     ensures { result.filled ≤ length page.old }
 {
-    let mut next = output::put(b"", page, output);
+    let mut next = output::put(rt, b"", page, output);
     let mut register: u8 = 0;
     while register < 21 {
-        next = put_register(chip, register, page, next);
+        next = put_register(rt, chip, register, page, next);
         register += 1;
     }
     next

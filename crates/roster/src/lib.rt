@@ -38,10 +38,7 @@ impl Roster {
             rooms: [console::ROOM; 16],
             calls: [0; 16],
             line: 0,
-            output: Output {
-                filled: 0,
-                failed: false,
-            },
+            output: Output::begin(),
         }
     }
 }
@@ -58,17 +55,25 @@ fn after(roster: Roster, number: DeskNumber, classroom: Classroom, output: Outpu
     next
 }
 
-fn transfer(roster: Roster, pupil: Pupil, bytes: &[u8], reply: &mut [u8], page: &mut [u8]) -> Roster
+fn transfer(
+    rt: &impl Print,
+    roster: Roster,
+    pupil: Pupil,
+    bytes: &[u8],
+    reply: &mut [u8],
+    page: &mut [u8],
+) -> Roster
     requires { is_desk pupil.number ≡ true }
 {
     let answer = desk::transfer(roster.classroom, pupil.number, pupil.key, bytes, reply);
     let said = answer.reply;
     let pin = answer.pin;
-    let output = answers::answer_transfer(roster.line, said, pin, reply, page, roster.output);
+    let output = answers::answer_transfer(rt, roster.line, said, pin, reply, page, roster.output);
     after(roster, pupil.number, answer.classroom, output)
 }
 
 fn event(
+    rt: &impl Print,
     roster: Roster,
     pupil: Pupil,
     event: Event,
@@ -88,22 +93,23 @@ fn event(
     );
     let said = answer.reply;
     let pin = answer.pin;
-    let output = answers::answer_event(roster.line, said, pin, reply, page, roster.output);
+    let output = answers::answer_event(rt, roster.line, said, pin, reply, page, roster.output);
     after(roster, pupil.number, answer.classroom, output)
 }
 
-fn step(roster: Roster, pupil: Pupil, reply: &mut [u8], page: &mut [u8]) -> Roster
+fn step(rt: &impl Print, roster: Roster, pupil: Pupil, reply: &mut [u8], page: &mut [u8]) -> Roster
     requires { is_desk pupil.number ≡ true }
 {
     let answer = desk::step(roster.classroom, pupil.number, pupil.key, reply);
     let said = answer.reply;
     let pin = answer.pin;
-    let output = answers::answer_step(roster.line, said, pin, reply, page, roster.output);
+    let output = answers::answer_step(rt, roster.line, said, pin, reply, page, roster.output);
     after(roster, pupil.number, answer.classroom, output)
 }
 
 // What a command puts that is no call: as the console does on that desk's board, and with its room.
 fn tell(
+    rt: &impl Print,
     roster: Roster,
     number: DeskNumber,
     command: Command,
@@ -123,7 +129,7 @@ fn tell(
         line: roster.line,
         output: before,
     };
-    let told = console::tell(console, command, line, page);
+    let told = console::tell(rt, console, command, line, page);
     let output = told.output;
     let mut next = roster;
     next.rooms[i] = told.room;
@@ -133,6 +139,7 @@ fn tell(
 
 // Does what a line at a desk asks for, with so many bytes lent for the reply.
 fn perform(
+    rt: &impl Print,
     roster: Roster,
     pupil: Pupil,
     command: Command,
@@ -144,15 +151,22 @@ fn perform(
     requires { is_desk pupil.number ≡ true }
 {
     match command {
-        Command::Transfer(_count) => transfer(roster, pupil, bytes, reply, page),
-        Command::Event(sent, _count) => event(roster, pupil, sent, bytes, reply, page),
-        Command::Step => step(roster, pupil, reply, page),
-        _ => tell(roster, pupil.number, command, line, page),
+        Command::Transfer(_count) => transfer(rt, roster, pupil, bytes, reply, page),
+        Command::Event(sent, _count) => event(rt, roster, pupil, sent, bytes, reply, page),
+        Command::Step => step(rt, roster, pupil, reply, page),
+        _ => tell(rt, roster, pupil.number, command, line, page),
     }
 }
 
 // A line at a desk that is there.
-fn read_line(roster: Roster, pupil: Pupil, line: &[u8], bytes: &mut [u8], page: &mut [u8]) -> Roster
+fn read_line(
+    rt: &impl Print,
+    roster: Roster,
+    pupil: Pupil,
+    line: &[u8],
+    bytes: &mut [u8],
+    page: &mut [u8],
+) -> Roster
     requires { (is_desk pupil.number ≡ true) × (length line.now ≤ length bytes.old) }
 {
     let mut reply = [0u8; 4200];
@@ -162,6 +176,7 @@ fn read_line(roster: Roster, pupil: Pupil, line: &[u8], bytes: &mut [u8], page: 
     let i = number.0 as usize;
     let room = console::lent(roster.rooms[i]);
     perform(
+        rt,
         roster,
         pupil,
         command,
@@ -173,14 +188,21 @@ fn read_line(roster: Roster, pupil: Pupil, line: &[u8], bytes: &mut [u8], page: 
 }
 
 // The key is looked at first, whatever the line asks for.
-pub fn call(roster: Roster, pupil: Pupil, line: &[u8], bytes: &mut [u8], page: &mut [u8]) -> Roster
+pub fn call(
+    rt: &impl Print,
+    roster: Roster,
+    pupil: Pupil,
+    line: &[u8],
+    bytes: &mut [u8],
+    page: &mut [u8],
+) -> Roster
     requires { length line.now ≤ length bytes.old }
 {
     let checked = classroom::check_call(roster.classroom, pupil.number, pupil.key);
     match checked {
-        Checked::Accepted => read_line(roster, pupil, line, bytes, page),
+        Checked::Accepted => read_line(rt, roster, pupil, line, bytes, page),
         Checked::Refused(_refusal) => {
-            let told = answers::answer_checked(roster.line, checked, page, roster.output);
+            let told = answers::answer_checked(rt, roster.line, checked, page, roster.output);
             let mut next = roster;
             next.output = told;
             next

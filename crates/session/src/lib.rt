@@ -5,6 +5,7 @@
 ghost use Rattle.std.specs.Prelude.{◌≡◌, ◌≤◌, length};
 
 use output::Output;
+use std::io::Read;
 
 // The bytes of a line, at most.
 const LINE: usize = 16384;
@@ -12,7 +13,6 @@ const LINE: usize = 16384;
 // What is kept between two reads and two lines.
 #[derive(Clone, Copy)]
 pub struct Session {
-    pub fd: i32,
     // The bytes of the chunk that are not taken yet.
     pub start: usize,
     pub end: usize,
@@ -33,11 +33,10 @@ pub struct Session {
 }
 
 impl Session {
-    pub fn begin(fd: i32) -> Self
+    pub fn begin() -> Self
         ensures { (result.length ≡ 0) × (result.filled ≡ 0) }
     {
         Session {
-            fd,
             start: 0,
             end: 0,
             filled: 0,
@@ -48,10 +47,7 @@ impl Session {
             broken: false,
             ended: false,
             over: false,
-            output: Output {
-                filled: 0,
-                failed: false,
-            },
+            output: Output::begin(),
         }
     }
 }
@@ -90,34 +86,43 @@ fn take_part(session: Session, chunk: &[u8], start: usize, end: usize, line: &mu
 }
 
 // Writes what waits on the page, and says so where that fails.
-fn write_page(session: Session, page: &[u8]) -> Session
+fn write_page(rt: &impl Print, err: &impl Print, session: Session, page: &[u8]) -> Session
     ensures { (result.filled ≡ session.filled) × (result.length ≡ session.length) }
 {
-    let output = output::flush(page, session.output);
+    let output = output::flush(rt, page, session.output);
     let mut next = session;
     next.output = output;
     next.over = session.ended;
     if output.failed {
-        os::fail(b"max3420e: standard output");
+        output::tell_failure(err, b"max3420e: standard output", output.reason());
         next.over = true;
     }
     next
 }
 
 // Reads once. A last line may have no line end.
-fn read_chunk(session: Session, path: &[u8], chunk: &mut [u8]) -> Session
+fn read_chunk(
+    err: &impl Print,
+    session: Session,
+    input: &mut impl Read,
+    path: &[u8],
+    chunk: &mut [u8],
+) -> Session
     ensures { result.filled ≡ session.filled }
 {
-    let got = libc::read(session.fd, chunk);
-    if got < 0 {
-        io::write_all(libc::STDERR_FILENO, b"max3420e: cannot read ");
-        os::fail(path);
-    }
     let mut next = session;
-    next.broken = got < 0;
+    next.broken = false;
     next.start = 0;
-    next.end = io::count(got, chunk);
-    if got <= 0 {
+    next.end = 0;
+    match input.read(chunk) {
+        Ok(count) => next.end = count,
+        Err(error) => {
+            let _ = err.write_all(b"max3420e: cannot read ");
+            output::tell_failure(err, path, error);
+            next.broken = true;
+        }
+    }
+    if next.end == 0 {
         next.ended = true;
         next.whole = 0 < session.filled;
     }
@@ -125,7 +130,7 @@ fn read_chunk(session: Session, path: &[u8], chunk: &mut [u8]) -> Session
 }
 
 // A line whose end has come can be taken, unless it is too long.
-fn end_line(session: Session, line: &[u8], page: &mut [u8]) -> Session
+fn end_line(rt: &impl Print, session: Session, line: &[u8], page: &mut [u8]) -> Session
     requires { session.filled ≤ length line.now }
     ensures { (result.length ≤ 16384) × (result.length ≤ length line.now) }
 {
@@ -139,8 +144,8 @@ fn end_line(session: Session, line: &[u8], page: &mut [u8]) -> Session
     let filled = session.filled;
     let length = words::without_return(&line[..filled]);
     if LINE < length {
-        let begun = output::put_decimal(next.number, page, session.output);
-        let told = output::put(b" error: a line has at most 16384 bytes\n", page, begun);
+        let begun = output::put_decimal(rt, next.number, page, session.output);
+        let told = output::put(rt, b" error: a line has at most 16384 bytes\n", page, begun);
         next.output = told;
         next.long = true;
         return next;
@@ -165,7 +170,10 @@ fn go_on(session: Session, size: usize) -> Session
 
 // Goes on to the next line's end, or as far as the chunk goes, or by a read.
 pub fn next(
+    rt: &impl Print,
+    err: &impl Print,
     session: Session,
+    input: &mut impl Read,
     path: &[u8],
     chunk: &mut [u8],
     line: &mut [u8],
@@ -178,12 +186,12 @@ pub fn next(
     let end = lesser(begun.end, chunk.len());
     if start < end {
         let taken = take_part(begun, chunk, start, end, line);
-        return end_line(taken, line, page);
+        return end_line(rt, taken, line, page);
     }
-    let written = write_page(begun, page);
+    let written = write_page(rt, err, begun, page);
     if written.over {
         return written;
     }
-    let read = read_chunk(written, path, chunk);
-    end_line(read, line, page)
+    let read = read_chunk(err, written, input, path, chunk);
+    end_line(rt, read, line, page)
 }
