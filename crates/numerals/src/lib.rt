@@ -63,6 +63,7 @@ fn byte_of_digits(high: u8, low: u8) -> ByteWord
 }
 
 // One or two hex digits.
+#[tactic(auto, unfolding(crate::specs::Numerals::byte_of))]
 pub fn read_byte(word: &[u8]) -> ByteWord
     ensures { result ≡ byte_of word.now }
 {
@@ -114,6 +115,7 @@ pub fn read_decimal(word: &[u8]) -> NumberWord
 }
 
 // A key: one to eight hex digits.
+#[tactic(auto, unfolding(crate::specs::Numerals::hex_key_of))]
 pub fn read_key(word: &[u8]) -> NumberWord
     ensures { result ≡ hex_key_of word.now }
 {
