@@ -88,6 +88,7 @@ fn grow(number: u32, digit: u8, base: u8) -> u32
 }
 
 // Digits of a base, at least one. A number that is too large counts as some number over 2 to the 28.
+#[tactic(auto, unfolding(crate::specs::Numerals::number_of))]
 fn read_number(word: &[u8], base: u8) -> NumberWord
     requires { base ≤ 16 }
     ensures { result ≡ number_of base word.now }
