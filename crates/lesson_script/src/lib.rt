@@ -35,6 +35,7 @@ const TICK: usize = 12;
 const LAST: u64 = 4294967295;
 
 // A decimal number of 32 bits.
+#[tactic(auto, unfolding(crate::specs::Line::tick_of))]
 fn read_number(word: &[u8]) -> NumberWord
     ensures { result ≡ tick_of word.now }
 {

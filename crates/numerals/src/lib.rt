@@ -63,6 +63,7 @@ fn byte_of_digits(high: u8, low: u8) -> ByteWord
 }
 
 // One or two hex digits.
+#[tactic(auto, unfolding(crate::specs::Numerals::byte_of))]
 pub fn read_byte(word: &[u8]) -> ByteWord
     ensures { result ≡ byte_of word.now }
 {
@@ -87,6 +88,7 @@ fn grow(number: u32, digit: u8, base: u8) -> u32
 }
 
 // Digits of a base, at least one. A number that is too large counts as some number over 2 to the 28.
+#[tactic(auto, unfolding(crate::specs::Numerals::number_of))]
 fn read_number(word: &[u8], base: u8) -> NumberWord
     requires { base ≤ 16 }
     ensures { result ≡ number_of base word.now }
@@ -114,6 +116,7 @@ pub fn read_decimal(word: &[u8]) -> NumberWord
 }
 
 // A key: one to eight hex digits.
+#[tactic(auto, unfolding(crate::specs::Numerals::hex_key_of))]
 pub fn read_key(word: &[u8]) -> NumberWord
     ensures { result ≡ hex_key_of word.now }
 {
