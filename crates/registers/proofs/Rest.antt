@@ -83,8 +83,9 @@ read_others c =
     rows_all (Plain c) 21
     ((λ o. absurd (o.0.0.0.0.0.0.1 refl)) ⨾ (λ o. absurd (o.0.0.0.0.0.1 refl)) ⨾ plain c 2 refl ⨾ plain c 3 refl ⨾
     (λ o. absurd (o.0.0.0.0.1 refl)) ⨾ (λ o. absurd (o.0.0.0.1 refl)) ⨾ (λ o. absurd (o.0.0.1 refl)) ⨾
-    (λ o. absurd (o.0.1 refl)) ⨾ (λ o. absurd (o.1 refl)) ⨾ plain c 9 refl ⨾ plain c 10 refl ⨾ plain c 11 refl ⨾ plain c 12 refl ⨾
-    plain c 13 refl ⨾ plain c 14 refl ⨾ plain c 15 refl ⨾ plain c 16 refl ⨾ plain c 17 refl ⨾ plain c 18 refl ⨾ plain c 19 refl ⨾ plain c 20 refl ⨾ none)
+    (λ o. absurd (o.0.1 refl)) ⨾ (λ o. absurd (o.1 refl)) ⨾ plain c 9 refl ⨾ plain c 10 refl ⨾ plain c 11 refl ⨾
+    plain c 12 refl ⨾ plain c 13 refl ⨾ plain c 14 refl ⨾ plain c 15 refl ⨾ plain c 16 refl ⨾ plain c 17 refl ⨾
+    plain c 18 refl ⨾ plain c 19 refl ⨾ plain c 20 refl ⨾ none)
     (λ n h o. get_or-eq_default (0 ∷ 0 ∷ 0 ∷ 0 ∷ 0 ∷ 0 ∷ 0 ∷ 0 ∷ 0 ∷ bytes_of c.registers) 0 h
     ∙ sym (ap (λ (f : ReadRule). (f c).gives) (get_or-eq_default Readers (read_control n) {n = n} (omega arith)) ∙
     get_or-eq_default (control_registers c) 0 {n = n - 5} (omega arith)))
