@@ -1,6 +1,6 @@
 -- The body of an event (document 02, Ask 5): its code, then for input pins their byte, for transactions address, endpoint, marks (1 damaged
 -- or, at IN, acknowledged, plus 2 for OUT's DATA1) and payload (none at IN).
-use Rattle.std.specs.Prelude.{Bool, true, false, cond, ◌&&◌, ◌||◌, List, [], ◌∷◌, ℕ, ◌+◌, ◌*◌, ◌%◌, eqb, leb, ltb, length, get_or, drop}
+use Rattle.std.specs.Prelude.{Bool, false, cond, ◌&&◌, ◌||◌, List, [], ◌∷◌, ℕ, ◌+◌, ◌*◌, ◌%◌, eqb, leb, ltb, length, get_or, drop}
 use Rattle.bits.specs.First.{first_of}
 use Rattle.model.specs.declared.Event.{Event}
 use Rattle.model.specs.Call.{is_setup, is_out, is_in, is_transaction}

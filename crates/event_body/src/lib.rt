@@ -80,6 +80,7 @@ fn read_transaction(code: u8, body: &[u8], damaged: bool, data1: bool, acknowled
 }
 
 // The event of a body; of a body that is no event's, event 0. One test for each layout.
+#[tactic(auto, unfolding(crate::specs::Body::event_of))]
 pub fn event_of(body: &[u8]) -> Event
     ensures { result ≡ event_of body.now }
 {
@@ -142,6 +143,7 @@ fn put_transaction(event: Event, marks: u8, payload: &[u8], body: &mut [u8]) -> 
 }
 
 // Puts the body of an event at the start of a lent buffer, and says how long it is.
+#[tactic(auto, unfolding(crate::specs::Body::body_of))]
 pub fn put_body(event: Event, payload: &[u8], body: &mut [u8]) -> usize
     requires { 4 + length payload.now ≤ length body.old }
     ensures { (result ≡ length (body_of event payload.now))

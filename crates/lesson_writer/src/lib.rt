@@ -55,7 +55,8 @@ fn put_table(kinds: &[u8], ticks: &[u32], lengths: &[u16], start: usize, file: &
     }
 }
 
-fn all_kinds_law(kinds: &[u8]) -> bool
+#[tactic(auto, unfolding(crate::specs::Parts::all_kinds))]
+fn all_kinds(kinds: &[u8]) -> bool
     ensures { result ≡ all_kinds kinds.now }
 {
     let mut i: usize = 0;
@@ -69,6 +70,7 @@ fn all_kinds_law(kinds: &[u8]) -> bool
     true
 }
 
+#[tactic(auto, unfolding(crate::specs::Parts::total))]
 fn sum(lengths: &[u16]) -> usize
     requires { length lengths.now ≤ 255 }
     ensures { result ≡ total lengths.now }
@@ -82,6 +84,7 @@ fn sum(lengths: &[u16]) -> usize
     found
 }
 
+#[tactic(auto, unfolding(crate::specs::Parts::has_file))]
 fn has_file(kinds: &[u8], ticks: &[u32], lengths: &[u16], bodies: &[u8]) -> bool
     ensures { result ≡ has_file kinds.now ticks.now lengths.now bodies.now }
 {
@@ -101,7 +104,7 @@ fn has_file(kinds: &[u8], ticks: &[u32], lengths: &[u16], bodies: &[u8]) -> bool
     if sum(lengths) != bodies.len() {
         return false;
     }
-    all_kinds_law(kinds)
+    all_kinds(kinds)
 }
 
 // The whole file, at the start of the buffer.

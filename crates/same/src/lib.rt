@@ -92,6 +92,7 @@ fn same_registers(a: Registers, b: Registers) -> bool
         & (a.iopins == b.iopins)
 }
 
+#[tactic(auto, unfolding(chip::specs::Same::same_chip))]
 pub fn same_chip(a: Chip, b: Chip) -> bool
     ensures { result ≡ same_chip a b }
 {
