@@ -10,6 +10,7 @@ use request::Firmware;
 use ring::Ring;
 
 // As many numbers, and each the same.
+#[tactic(auto, using(crate::proofs::Numbers::differ_length))]
 fn same_numbers(a: &[u8], b: &[u8]) -> bool
     ensures { result ≡ same_numbers a.now b.now }
 {
@@ -92,6 +93,7 @@ fn same_registers(a: Registers, b: Registers) -> bool
         & (a.iopins == b.iopins)
 }
 
+#[tactic(auto, unfolding(chip::specs::Same::same_chip))]
 pub fn same_chip(a: Chip, b: Chip) -> bool
     ensures { result ≡ same_chip a b }
 {
