@@ -57,6 +57,7 @@ impl Desk {
     }
 
     // An open desk has sound records; a closed one those of power-on, and no key.
+    #[tactic(auto, unfolding(crate::specs::Record::sound_desk))]
     pub fn is_sound(self) -> bool
         ensures { result ≡ sound_desk self }
     {
