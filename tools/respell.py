@@ -81,10 +81,15 @@ def turned(text, names, after_dot):
     return re.sub(WORD, one, text)
 
 
+def marked(names):
+    """Those that no name of code can be: with a dash or a capital inside."""
+    return {old: new for old, new in names.items() if re.search("[A-Z-]", old)}
+
+
 def spans(text, names):
     """A comment or a page: its code spans, and names with a capital inside, which no prose has."""
-    text = re.sub(r"`[^`\n]*`", lambda m: turned(m[0], names, True), text)
-    return re.sub(WORD, lambda m: names.get(m[0], m[0]) if "-" not in m[0] else m[0], text)
+    text = re.sub(r"`[^`\n]*`", lambda m: turned(m[0], marked(names), True), text)
+    return re.sub(WORD, lambda m: names.get(m[0], m[0]) if re.search("[A-Z]", m[0]) and "-" not in m[0] else m[0], text)
 
 
 def antt(text, names, after_dot):
@@ -107,7 +112,7 @@ def rust(text, names):
             out.append(m[1] + "//" + spans(m[2], names))
         else:
             parts = re.split(r'("(?:[^"\\]|\\.)*")', line)
-            out.append("".join(p if p.startswith('"') else turned(p, names, True) for p in parts))
+            out.append("".join(p if p.startswith('"') else turned(p, marked(names), True) for p in parts))
     return "\n".join(out)
 
 
