@@ -108,6 +108,7 @@ pub fn check_call(room: Classroom, number: DeskNumber, key: u32) -> Checked
 // ---- the teacher's calls
 
 // Opens a desk with a key.
+#[tactic(auto, unfolding(crate::specs::Calls::open_answer))]
 pub fn open(room: Classroom, number: DeskNumber, key: u32) -> TeacherAnswer
     ensures { result ≡ open_answer room number key }
 {
@@ -130,6 +131,7 @@ pub fn open(room: Classroom, number: DeskNumber, key: u32) -> TeacherAnswer
 }
 
 // Closes a desk: both records go back to power-on.
+#[tactic(auto, unfolding(crate::specs::Calls::close_answer))]
 pub fn close(room: Classroom, number: DeskNumber) -> TeacherAnswer
     ensures { result ≡ close_answer room number }
 {
