@@ -11,12 +11,12 @@ use borrow.Author.Tests.{ltb-false}
 use Rattle.bits.proofs.Cases.{cond_elim}
 use Rattle.refusal.specs.declared.Checked.{Checked}
 use Rattle.refusal.specs.declared.Checked.TheVariants.{Accepted, Refused}
-use Rattle.refusal.specs.Check.{check, checked_number}
+use Rattle.refusal.specs.Check.{checked_number}
 use Rattle.refusal.proofs.Check.{accepted_none}
 use Rattle.chip.specs.declared.Chip.{Chip}
 use Rattle.chip.specs.Sound.{sound_chip}
 use Rattle.model.specs.declared.Event.{Event}
-use Rattle.model.specs.Reply.{Reply, transferred, done, silence, ack, nak, stall, sent, reply_bytes, lent}
+use Rattle.model.specs.Reply.{Reply, transferred, done, silence, ack, nak, stall, sent, reply_bytes}
 use Rattle.model.specs.Call.{Call, transfer, event, Answer, refused, answered, buffer_after, transfer_grounds}
 use Rattle.model.specs.Call.{checked, checked_answer, call_to, answer_of}
 use Rattle.model.proofs.Runs.{transfer_length}
