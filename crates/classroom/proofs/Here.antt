@@ -1,10 +1,9 @@
 -- Where 9 applies, and where it does not: it is the first ground of every call.
 use mathlib.Core.Path.{◌≡◌, sym, ◌∙◌}
 use mathlib.Core.Bool.{true}
-use mathlib.Core.List.{map}
 use Prim.Native.Nat.{ℕ, zero, ◌≤◌, ◌<◌}
 use native.Mathlib.Omega.{arith}
-use lib.ListN.{length, length-map, get_or}
+use lib.ListN.{length, get_or}
 use borrow.Author.Tests.{not-false, lt-ltb, le-ltb}
 use Rattle.refusal.specs.declared.Refusal.TheVariants.{NoDesk}
 use Rattle.refusal.specs.declared.Checked.{Checked}
@@ -32,17 +31,13 @@ calling_here room n key e = not-false (is_desk n) (accepted_none (calling_ground
 pub calling_nowhere : (room : Classroom) (n : DeskNumber) (key : ℕ) → 16 ≤ n.0 → calling_checked room n key ≡ Refused NoDesk
 calling_nowhere room n key h = rw (le-ltb n.0 16 h)
 
--- a desk that there is, read whatever stands for those past the end; the record's type says how many there are
-desk_read : {X : Type 0} (into : Desk → X) (room : Classroom) (n : DeskNumber) → length (map into room.desks) ≡ 16 → n.0 < 16
-    → (e : Desk) → get_or room.desks n.0 e ≡ desk_at room n
-desk_read into room n sixteen h e =
-    let long : length room.desks ≡ 16 = sym (length-map room.desks into) ∙ sixteen in
-    get_or_within room.desks n.0 e closed_desk (omega (arith, long, h))
+-- a desk that there is, read whatever stands for those past the end
+desk_read : (room : Classroom) (n : DeskNumber) → length room.desks ≡ 16 → n.0 < 16 → (e : Desk) → get_or room.desks n.0 e ≡ desk_at room n
+desk_read room n sixteen h e = get_or_within room.desks n.0 e closed_desk (omega (arith, sixteen, h))
 
-pub calling_by : {X : Type 0} (into : Desk → X) (room : Classroom) (n : DeskNumber) → length (map into room.desks) ≡ 16 → n.0 < 16
-    → (e : Desk) (key : ℕ) {v w : Checked}
+pub calling_by : (room : Classroom) (n : DeskNumber) → length room.desks ≡ 16 → n.0 < 16 → (e : Desk) (key : ℕ) {v w : Checked}
     → v ≡ check (key_grounds (get_or room.desks n.0 e).opened (get_or room.desks n.0 e).key key) → v ≡ w
     → (calling_checked room n key ≡ w) × (get_or room.desks n.0 e ≡ desk_at room n)
-calling_by into room n sixteen h e key f g =
-    let read = desk_read into room n sixteen h e in
+calling_by room n sixteen h e key f g =
+    let read = desk_read room n sixteen h e in
     (rw (lt-ltb n.0 16 h, ← read) (sym f ∙ g), read)

@@ -1,3 +1,2 @@
 // Lists of orders to the classroom: definitions, theorems and a lesson, no functions.
 #![tactic(auto)]
-
