@@ -96,7 +96,7 @@ writes address request = setup_at address request ∷ serves Ack [] ∷ in_at ad
 abbrev pub refuses_request : ℕ → List ℕ → List Play
 refuses_request address request = setup_at address request ∷ serves Stall [] ∷ in_at address 0 stall ∷ []
 
--- GET_DESCRIPTOR of a type and index, with w_length
+-- GET_DESCRIPTOR of a type and index, with wLength
 abbrev pub descriptor : ℕ → ℕ → ℕ → List ℕ
 descriptor type index wlength = 0x80 ∷ 0x06 ∷ index ∷ type ∷ 0 ∷ 0 ∷ wlength ∷ 0 ∷ []
 

@@ -35,7 +35,7 @@ const DEVICE: [u8; 24] = *b"\x00\x05\x17\x00\x00\x00\x00\x00\
     \x00\x05\xFF\xFF\x00\x00\x00\x00\
     \x80\x08\x00\x00\x00\x00\x01\x00";
 
-// The device descriptor with w_length 64, 8 and 0; the configuration with 9 and 255; a type that does not exist.
+// The device descriptor with wLength 64, 8 and 0; the configuration with 9 and 255; a type that does not exist.
 const DESCRIPTORS: [u8; 48] = *b"\x80\x06\x00\x01\x00\x00\x40\x00\
     \x80\x06\x00\x01\x00\x00\x08\x00\
     \x80\x06\x00\x01\x00\x00\x00\x00\

@@ -1,7 +1,7 @@
 -- How many bytes of a table are sent, and what the reply buffer then holds (document 01, "The firmware").
 use Rattle.std.specs.Prelude.{◌≡◌, List, ◌++◌, ℕ, min, length, take, drop}
 
--- n is the smaller of w_length and what there is
+-- n is the smaller of wLength and what there is
 abbrev pub count : List ℕ → ℕ → ℕ
 count table wlength = min wlength (length table)
 

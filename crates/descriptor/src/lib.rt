@@ -47,7 +47,7 @@ fn least(a: usize, b: usize) -> usize
     if a < b { a } else { b }
 }
 
-// Copies the first bytes of a table, at most w_length, to the start of the reply buffer, and tells how many.
+// Copies the first bytes of a table, at most wLength, to the start of the reply buffer, and tells how many.
 fn copy(table: &[u8], wlength: u16, reply: &mut [u8]) -> u8
     requires { (length table.now ≤ 64) × (64 ≤ length reply.old) }
     ensures { Sent table.now wlength reply.old result reply.new }
@@ -72,7 +72,7 @@ fn copy_string(index: u8, wlength: u16, reply: &mut [u8]) -> u8
 }
 
 impl Data {
-    // Writes what is read to the reply buffer, at most w_length bytes of it, and tells how many.
+    // Writes what is read to the reply buffer, at most wLength bytes of it, and tells how many.
     pub fn send(self, wlength: u16, reply: &mut [u8]) -> u8
         requires { 64 ≤ length reply.old }
         ensures { Sent (data_bytes self) wlength reply.old result reply.new }

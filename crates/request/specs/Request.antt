@@ -49,7 +49,7 @@ fields q value index = eqb q.wvalue value && eqb q.windex index
 abbrev pub plain : Request → Bool
 plain q = eqb (wvaluel q) 0 && eqb q.windex 0
 
--- w_length, which is free for reads only
+-- wLength, which is free for reads only
 abbrev pub no_data : Request → Bool
 no_data q = eqb q.wlength 0
 

@@ -159,7 +159,7 @@ case9 =
     ++ (out 1 false (0x07 ∷ 0x08 ∷ []) ack ∷ out 1 true (0x09 ∷ []) ack ∷ out 1 false (0x05 ∷ []) nak ∷ writes 0x5a 0x04 ∷ r11 0x1d
     ∷ writes 0x5a 0x04 ∷ r11 0x19 ∷ [])
 
--- the device descriptor asked with w_length 64: 18 bytes; 8: 8; 0: ACK only
+-- the device descriptor asked with wLength 64: 18 bytes; 8: 8; 0: ACK only
 abbrev pub ask_device : ℕ → List ℕ
 ask_device wlength = 0x80 ∷ 0x06 ∷ 0x00 ∷ 0x01 ∷ 0x00 ∷ 0x00 ∷ wlength ∷ 0x00 ∷ []
 

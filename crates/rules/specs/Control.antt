@@ -38,10 +38,10 @@ setup_byte c i = get_or c.ep0.setup i 0
 abbrev pub w_length : Chip → ℕ
 w_length c = setup_byte c 6 + 256 * setup_byte c 7
 
--- a transfer reads if bit 7 of byte 0 is 1 and w_length isn't 0: IN is data, OUT is status; otherwise the other way round
+-- a transfer reads if bit 7 of byte 0 is 1 and wLength isn't 0: IN is data, OUT is status; otherwise the other way round
 abbrev pub reading : Chip → Bool
 reading c = has (setup_byte c 0) 0x80 && not (eqb (w_length c) 0)
 
--- bytes 0, 1 are 00 05 with w_length 0: SET_ADDRESS
+-- bytes 0, 1 are 00 05 with wLength 0: SET_ADDRESS
 abbrev pub sets_address : Chip → Bool
 sets_address c = (eqb (setup_byte c 0) 0x00 && eqb (setup_byte c 1) 0x05) && eqb (w_length c) 0

@@ -56,24 +56,24 @@ write_transfer =
     ∷ out 1 false [] stall ∷ «in» 2 true stall ∷ «in» 3 true stall ∷ setup (0x21 ∷ 0x09 ∷ 0 ∷ 0 ∷ 0 ∷ 0 ∷ 0x02 ∷ 0 ∷ [])
     ∷ reads 0x48 0x1c ∷ r11 0x39 ∷ out 0 true (0x01 ∷ []) ack ∷ [])
 
--- which stage an IN or an OUT belongs to: by bit 7 of byte 0 and both bytes of w_length; STLEP0 bits do not touch the status stage, STLSTAT
+-- which stage an IN or an OUT belongs to: by bit 7 of byte 0 and both bytes of wLength; STLEP0 bits do not touch the status stage, STLSTAT
 -- does not touch the data stage
 abbrev pub stages : List Step
 stages =
     on
     ++ («in» 0 true nak ∷ out 0 false [] nak ∷ writes 0x4a 0x03 ∷ «in» 0 true stall ∷ out 0 false [] stall
-    -- bit 7 and w_length 0100: IN is data
+    -- bit 7 and wLength 0100: IN is data
     ∷ setup (0xc0 ∷ 0 ∷ 0 ∷ 0 ∷ 0 ∷ 0 ∷ 0x00 ∷ 0x01 ∷ []) ∷ writes 0x4a 0x20 ∷ «in» 0 true nak ∷ out 0 true [] stall ∷ writes 0x4a 0x43
     ∷ «in» 0 true stall ∷ out 0 true [] ack
-    -- bit 7 and w_length 1: IN is data
+    -- bit 7 and wLength 1: IN is data
     ∷ setup (0x80 ∷ 0 ∷ 0 ∷ 0 ∷ 0 ∷ 0 ∷ 0x01 ∷ 0x00 ∷ []) ∷ writes 0x4a 0x40 ∷ «in» 0 true nak ∷ out 0 true [] ack
-    -- bit 7 and w_length 0: IN is status, OUT is STALL
+    -- bit 7 and wLength 0: IN is status, OUT is STALL
     ∷ setup (0x80 ∷ 0 ∷ 0 ∷ 0 ∷ 0 ∷ 0 ∷ 0x00 ∷ 0x00 ∷ []) ∷ writes 0x4a 0x40 ∷ «in» 0 true (sent true []) ∷ out 0 true [] stall
-    -- no bit 7 and w_length 2: IN is status, OUT is data
+    -- no bit 7 and wLength 2: IN is status, OUT is data
     ∷ setup (0x7f ∷ 0 ∷ 0 ∷ 0 ∷ 0 ∷ 0 ∷ 0x02 ∷ 0x00 ∷ []) ∷ writes 0x4a 0x20 ∷ «in» 0 true stall ∷ out 0 true (0x01 ∷ []) ack
     ∷ writes 0x4a 0x43 ∷ «in» 0 true (sent true []) ∷ out 0 false (0x01 ∷ []) stall ∷ [])
 
--- SET_ADDRESS: FNADDR changes when the status stage's ACK arrives; not by another request, nor with a w_length
+-- SET_ADDRESS: FNADDR changes when the status stage's ACK arrives; not by another request, nor with a wLength
 abbrev pub set_address : List Step
 set_address =
     on

@@ -35,7 +35,7 @@ out0_status c n =
     first_of ((has c.registers.epstalls stlstat, Stall) ∷ (not (eqb n 0), Stall) ∷ (has c.registers.epstalls ackstat, Status) ∷
     []) Nak
 
--- data: STALL if STLEP0OUT is set (000 page 60) or w_length is 0 (h); NAK if there is no room: OUT0DAVIRQ=1 or armed; wrong toggle:
+-- data: STALL if STLEP0OUT is set (000 page 60) or wLength is 0 (h); NAK if there is no room: OUT0DAVIRQ=1 or armed; wrong toggle:
 -- ACK, dropped; else stored
 abbrev pub out0_data : Chip → Bool → OutVerdict
 out0_data c data1 =
