@@ -1,10 +1,10 @@
 #!/bin/sh
 # The C interface: the header's layout against the library, and the firmware of examples/ on the model, under the address and
-# undefined-behaviour sanitizers. Run it once the three archives are built (rt staticlib NAME: capi, capi_classroom, capi_lesson).
+# undefined-behaviour sanitizers. Run it once the three archives are built (sh scripts/staticlib.sh).
 set -eu
 cd "$(dirname "$0")/.."
 for name in capi capi_classroom capi_lesson; do
-    [ -f "target/staticlib/lib$name.a" ] || { echo "c: lib$name.a is missing: rt staticlib $name" >&2; exit 1; }
+    [ -f "target/staticlib/lib$name.a" ] || { echo "c: lib$name.a is missing: sh scripts/staticlib.sh $name" >&2; exit 1; }
 done
 work=$(mktemp -d)
 trap 'rm -rf "$work"' EXIT

@@ -1,12 +1,12 @@
 #!/bin/sh
 # The console held to its examples, to input of any kind, and to files that it cannot read or write.
-# Run it once target/bin/max3420e is built (rt check max3420e). A Rattle program has no exit status but 0: it tells failures on
-# standard error, and ./max3420e makes them an exit status.
+# Run it once crates/max3420e/out/max3420e is built (./max3420e does so where it is missing). A failure is told on standard error, and has
+# status 1.
 set -u
 cd "$(dirname "$0")/.." || exit 1
-program=target/bin/max3420e
+program=crates/max3420e/out/max3420e
 bytes=10000000
-[ -x "$program" ] || { echo "console: $program is missing: rt check max3420e" >&2; exit 1; }
+[ -x "$program" ] || { echo "console: $program is missing: ./max3420e builds it" >&2; exit 1; }
 work=$(mktemp -d) || exit 1
 trap 'rm -rf "$work"' EXIT
 trap 'exit 1' HUP INT TERM

@@ -1,19 +1,17 @@
 #!/bin/sh
 # A desk's number and an endpoint's are kinds of number that cannot be swapped (decision 75): an edit that passes the one for the other is
-# refused by the type checker, before any proof. A must-fail edit has to reach the prover, so this one is made here, in a copy. Run it
-# once capi_classroom is proved.
+# refused by the type checker, before any proof. A must-fail edit has to reach the prover, so this one is made here, in a copy.
 set -eu
 cd "$(dirname "$0")/.."
 work=$(mktemp -d)
 trap 'rm -rf "$work"' EXIT
 trap 'exit 1' HUP INT TERM
-cp -r crates crates.txt "$work"
-mkdir "$work/target"
-for part in target/*; do
-    case $part in
-    target/must-fail | target/log) ;;
-    *) cp -r "$part" "$work/target" ;;
-    esac
+cp crates.txt "$work"
+for part in src specs proofs; do
+    for folder in crates/*/"$part"; do
+        mkdir -p "$work/${folder%/*}"
+        cp -r "$folder" "$work/$folder"
+    done
 done
 
 # swap CRATE OLD NEW EXPECTED FOUND: the edit changes the crate's code, and the type checker says why it is refused.
@@ -21,11 +19,11 @@ swap() {
     source=crates/$1/src/lib.rt
     sed "s/$2/$3/" "$source" >"$work/$source"
     cmp -s "$source" "$work/$source" && { echo "kinds: '$2' is not in $source" >&2; exit 1; }
-    if said=$(cd "$work" && rt check "$1" 2>&1); then
+    if said=$(cd "$work/crates/$1" && rt check 2>&1); then
         echo "kinds: $3 is accepted in $source" >&2
         exit 1
     fi
-    printf '%s\n' "$said" | grep -q "error\[mismatched-types\]: expected \`$4\`, found \`$5\`" || {
+    printf '%s\n' "$said" | grep -q "^src/lib.rt:.*error\[mismatched-types\]: expected \`$4\`, found \`$5\`" || {
         printf '%s\n' "$said" >&2
         exit 1
     }
@@ -33,5 +31,5 @@ swap() {
 }
 
 swap capi_classroom 'desk::event(classroom, DeskNumber(desk)' 'desk::event(classroom, model::EndpointNumber(desk)' DeskNumber EndpointNumber
-swap roster 'event(roster, pupil, sent, bytes' 'event(roster, pupil, Event { endpoint: pupil.number, ..sent }, bytes' EndpointNumber DeskNumber
+swap roster 'event(rt, roster, pupil, sent, bytes' 'event(rt, roster, pupil, Event { endpoint: pupil.number, ..sent }, bytes' EndpointNumber DeskNumber
 echo "kinds: an endpoint's number is no desk's, and a desk's is no endpoint's"

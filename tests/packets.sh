@@ -1,10 +1,10 @@
 #!/bin/sh
 # `max3420e packets` held to its examples, to runs of any kind, and to the console; its captures to stored ones and to tshark, which is
-# installed where that can be done. Run it once target/bin/max3420e is built (rt check max3420e).
+# installed where that can be done. Run it once crates/max3420e/out/max3420e is built (./max3420e does so where it is missing).
 set -u
 cd "$(dirname "$0")/.." || exit 1
-program=target/bin/max3420e
-[ -x "$program" ] || { echo "packets: $program is missing: rt check max3420e" >&2; exit 1; }
+program=crates/max3420e/out/max3420e
+[ -x "$program" ] || { echo "packets: $program is missing: ./max3420e builds it" >&2; exit 1; }
 work=$(mktemp -d) || exit 1
 trap 'rm -rf "$work"' EXIT
 trap 'exit 1' HUP INT TERM

@@ -47,15 +47,13 @@ pub fn event_of(
 
 // ---- a chip
 
-#[unsafe(no_mangle)]
-pub extern "C" fn max3420e_power_on() -> Chip
+pub fn max3420e_power_on() -> Chip
     ensures { result ≡ power_on_chip }
 {
     Chip::power_on()
 }
 
-#[unsafe(no_mangle)]
-pub extern "C" fn max3420e_transfer(chip: Chip, bytes: &[u8], reply: &mut [u8]) -> FlatAnswer
+pub fn max3420e_transfer(chip: Chip, bytes: &[u8], reply: &mut [u8]) -> FlatAnswer
     ensures { (result ≡ flat_transfer (transfer_answer chip (Call.transfer bytes.now (length reply.old))))
         × (reply.new
         ≡ buffer_after (answer_of max3420e chip (Call.transfer bytes.now (length reply.old))) reply.old) }
@@ -63,8 +61,7 @@ pub extern "C" fn max3420e_transfer(chip: Chip, bytes: &[u8], reply: &mut [u8]) 
     flat_transfer(spi::transfer(chip, bytes, reply))
 }
 
-#[unsafe(no_mangle)]
-pub extern "C" fn max3420e_event(
+pub fn max3420e_event(
     chip: Chip,
     code: u8,
     pins: u8,
@@ -87,12 +84,7 @@ pub extern "C" fn max3420e_event(
 
 // ---- a chip with the board's own firmware, and that firmware alone
 
-#[unsafe(no_mangle)]
-pub extern "C" fn max3420e_board_step(
-    chip: Chip,
-    firmware: Firmware,
-    reply: &mut [u8],
-) -> FlatBoardAnswer
+pub fn max3420e_board_step(chip: Chip, firmware: Firmware, reply: &mut [u8]) -> FlatBoardAnswer
     ensures { (result ≡ flat_step (board_step (record { chip = chip; firmware = firmware }) (length reply.old)))
         × (reply.new ≡ step_buffer (record { chip = chip; firmware = firmware })
         (step_checked (record { chip = chip; firmware = firmware }) (length reply.old)) reply.old) }
@@ -100,8 +92,7 @@ pub extern "C" fn max3420e_board_step(
     flat_step(board::step(Board { chip, firmware }, reply))
 }
 
-#[unsafe(no_mangle)]
-pub extern "C" fn max3420e_firmware_answer(
+pub fn max3420e_firmware_answer(
     firmware: Firmware,
     setup: &[u8],
     reply: &mut [u8],

@@ -17,29 +17,25 @@ use flat_classroom::{
     flat_desk_transfer, flat_teacher,
 };
 
-#[unsafe(no_mangle)]
-pub extern "C" fn max3420e_classroom_start() -> Classroom
+pub fn max3420e_classroom_start() -> Classroom
     ensures { result ≡ all_closed }
 {
     Classroom::start()
 }
 
-#[unsafe(no_mangle)]
-pub extern "C" fn max3420e_open_desk(classroom: Classroom, desk: u8, key: u32) -> FlatTeacherAnswer
+pub fn max3420e_open_desk(classroom: Classroom, desk: u8, key: u32) -> FlatTeacherAnswer
     ensures { result ≡ flat_teacher (open_answer classroom (desk_number desk) key) }
 {
     flat_teacher(classroom::open(classroom, DeskNumber(desk), key))
 }
 
-#[unsafe(no_mangle)]
-pub extern "C" fn max3420e_close_desk(classroom: Classroom, desk: u8) -> FlatTeacherAnswer
+pub fn max3420e_close_desk(classroom: Classroom, desk: u8) -> FlatTeacherAnswer
     ensures { result ≡ flat_teacher (close_answer classroom (desk_number desk)) }
 {
     flat_teacher(classroom::close(classroom, DeskNumber(desk)))
 }
 
-#[unsafe(no_mangle)]
-pub extern "C" fn max3420e_desk_transfer(
+pub fn max3420e_desk_transfer(
     classroom: Classroom,
     desk: u8,
     key: u32,
@@ -53,8 +49,7 @@ pub extern "C" fn max3420e_desk_transfer(
     flat_desk_transfer(desk::transfer(classroom, DeskNumber(desk), key, bytes, reply))
 }
 
-#[unsafe(no_mangle)]
-pub extern "C" fn max3420e_desk_event(
+pub fn max3420e_desk_event(
     classroom: Classroom,
     desk: u8,
     key: u32,
@@ -77,8 +72,7 @@ pub extern "C" fn max3420e_desk_event(
     flat_desk_event(desk::event(classroom, DeskNumber(desk), key, event, payload, reply))
 }
 
-#[unsafe(no_mangle)]
-pub extern "C" fn max3420e_desk_step(
+pub fn max3420e_desk_step(
     classroom: Classroom,
     desk: u8,
     key: u32,

@@ -56,8 +56,7 @@ fn accept(count: usize) -> FlatLessonAnswer
     }
 }
 
-#[unsafe(no_mangle)]
-pub extern "C" fn max3420e_check_lesson(file: &[u8]) -> FlatLessonAnswer
+pub fn max3420e_check_lesson(file: &[u8]) -> FlatLessonAnswer
     ensures { result ≡ flat_check (lesson_of file.now) }
 {
     match lesson::check(file) {
@@ -66,8 +65,7 @@ pub extern "C" fn max3420e_check_lesson(file: &[u8]) -> FlatLessonAnswer
     }
 }
 
-#[unsafe(no_mangle)]
-pub extern "C" fn max3420e_write_lesson(
+pub fn max3420e_write_lesson(
     kinds: &[u8],
     ticks: &[u32],
     lengths: &[u16],
@@ -95,8 +93,7 @@ fn reply_numbers(reply: ReplayReply) -> FlatLessonAnswer
     }
 }
 
-#[unsafe(no_mangle)]
-pub extern "C" fn max3420e_replay(file: &[u8], output: &mut [u8]) -> FlatReplayAnswer
+pub fn max3420e_replay(file: &[u8], output: &mut [u8]) -> FlatReplayAnswer
     ensures { (result ≡ flat_replay (replay_answer file.now (length output.old)))
         × (output.new ≡ replay_buffer file.now output.old) }
 {
@@ -115,8 +112,7 @@ pub extern "C" fn max3420e_replay(file: &[u8], output: &mut [u8]) -> FlatReplayA
 }
 
 // The ticks from one to another.
-#[unsafe(no_mangle)]
-pub extern "C" fn max3420e_elapsed(from: u32, to: u32) -> u32
+pub fn max3420e_elapsed(from: u32, to: u32) -> u32
     ensures { result ≡ elapsed_ticks from to }
 {
     lesson::elapsed(from, to)

@@ -152,6 +152,7 @@ fn endpoints_number(endpoints: Endpoints) -> u8
     }
 }
 
+#[tactic(auto, unfolding(crate::specs::Answer::flat_transfer))]
 pub fn flat_transfer(answer: TransferAnswer) -> FlatAnswer
     ensures { result ≡ flat_transfer answer }
 {
@@ -169,6 +170,7 @@ pub fn flat_transfer(answer: TransferAnswer) -> FlatAnswer
     }
 }
 
+#[tactic(auto, unfolding(crate::specs::Answer::flat_event))]
 pub fn flat_event(answer: EventAnswer) -> FlatAnswer
     ensures { result ≡ flat_event answer }
 {
@@ -186,6 +188,7 @@ pub fn flat_event(answer: EventAnswer) -> FlatAnswer
     }
 }
 
+#[tactic(auto, unfolding(crate::specs::Answer::flat_step))]
 pub fn flat_step(answer: BoardStep) -> FlatBoardAnswer
     ensures { result ≡ flat_step answer }
 {
@@ -206,6 +209,7 @@ pub fn flat_step(answer: BoardStep) -> FlatBoardAnswer
     }
 }
 
+#[tactic(auto, unfolding(crate::specs::Answer::flat_request))]
 pub fn flat_request(answer: RequestAnswer) -> FlatRequestAnswer
     ensures { result ≡ flat_request answer }
 {

@@ -50,6 +50,7 @@ fn checked_number(checked: Checked) -> u8
     }
 }
 
+#[tactic(auto, unfolding(crate::specs::Answer::flat_teacher))]
 pub fn flat_teacher(answer: TeacherAnswer) -> FlatTeacherAnswer
     ensures { result ≡ flat_teacher answer }
 {
@@ -61,6 +62,7 @@ pub fn flat_teacher(answer: TeacherAnswer) -> FlatTeacherAnswer
     }
 }
 
+#[tactic(auto, unfolding(crate::specs::Answer::flat_desk_transfer))]
 pub fn flat_desk_transfer(answer: DeskTransfer) -> FlatDeskAnswer
     ensures { result ≡ flat_desk_transfer answer }
 {
@@ -78,6 +80,7 @@ pub fn flat_desk_transfer(answer: DeskTransfer) -> FlatDeskAnswer
     }
 }
 
+#[tactic(auto, unfolding(crate::specs::Answer::flat_desk_event))]
 pub fn flat_desk_event(answer: DeskEvent) -> FlatDeskAnswer
     ensures { result ≡ flat_desk_event answer }
 {
@@ -95,6 +98,7 @@ pub fn flat_desk_event(answer: DeskEvent) -> FlatDeskAnswer
     }
 }
 
+#[tactic(auto, unfolding(crate::specs::Answer::flat_desk_step))]
 pub fn flat_desk_step(answer: DeskStep) -> FlatDeskStep
     ensures { result ≡ flat_desk_step answer }
 {

@@ -4,7 +4,7 @@
 //! A second table has lessons of 1, 16 and 64 KiB, played from power-on.
 //! Words after ` -- ` choose the rows whose name has one of them in it; `-- burst` is all bursts of R0 to R4, `-- replay` the lessons.
 //!
-//! With BEFORE_DIR=FOLDER before the command, FOLDER having an earlier commit's libcapi.a (`rt staticlib capi` there), that
+//! With BEFORE_DIR=FOLDER before the command, FOLDER having an earlier commit's libcapi.a (`sh scripts/staticlib.sh capi` there), that
 //! library is measured in the same run, in turn with the others: its times and its ratio stand before the library's.
 
 const COMMAND: &str = "cargo run --profile measure --no-default-features --bin bench";

@@ -1,0 +1,91 @@
+// What C programs call (include/max3420e.h): the functions of crate capi, each with the same promise, exported as a static library. A
+// function of a library exports nothing.
+#![tactic(auto)]
+
+ghost use Rattle.std.specs.Prelude.{◌≡◌, length};
+ghost use Rattle.chip.specs.Record.{power_on_chip};
+ghost use Rattle.model.specs.Call.{Call, answer_of, buffer_after};
+ghost use Rattle.rules.specs.Event.{max3420e};
+ghost use Rattle.firmware.specs.Answer.{handled};
+ghost use Rattle.spi.specs.Transfer.{transfer_answer};
+ghost use Rattle.bus.specs.EventCall.{event_answer, event_buffer};
+ghost use Rattle.board.specs.Board.{board_step, step_checked, step_buffer};
+ghost use Rattle.flat.specs.Answer.{flat_transfer, flat_event, flat_step, flat_request};
+ghost use Rattle.capi.specs.Arguments.{event_of};
+
+use chip::Chip;
+use flat::{FlatAnswer, FlatBoardAnswer, FlatRequestAnswer};
+use request::Firmware;
+
+#[unsafe(no_mangle)]
+pub extern "C" fn max3420e_power_on() -> Chip
+    ensures { result ≡ power_on_chip }
+{
+    capi::max3420e_power_on()
+}
+
+#[unsafe(no_mangle)]
+pub extern "C" fn max3420e_transfer(chip: Chip, bytes: &[u8], reply: &mut [u8]) -> FlatAnswer
+    ensures { (result ≡ flat_transfer (transfer_answer chip (Call.transfer bytes.now (length reply.old))))
+        × (reply.new
+        ≡ buffer_after (answer_of max3420e chip (Call.transfer bytes.now (length reply.old))) reply.old) }
+{
+    capi::max3420e_transfer(chip, bytes, reply)
+}
+
+#[unsafe(no_mangle)]
+pub extern "C" fn max3420e_event(
+    chip: Chip,
+    code: u8,
+    pins: u8,
+    address: u8,
+    endpoint: u8,
+    damaged: u8,
+    data1: u8,
+    acknowledged: u8,
+    payload: &[u8],
+    reply: &mut [u8],
+) -> FlatAnswer
+    ensures { (result ≡ flat_event (event_answer chip (event_of code pins address endpoint damaged data1 acknowledged)
+        payload.now (length reply.old)))
+        × (reply.new ≡ event_buffer chip (event_of code pins address endpoint damaged data1 acknowledged)
+        payload.now reply.old) }
+{
+    capi::max3420e_event(
+        chip,
+        code,
+        pins,
+        address,
+        endpoint,
+        damaged,
+        data1,
+        acknowledged,
+        payload,
+        reply,
+    )
+}
+
+#[unsafe(no_mangle)]
+pub extern "C" fn max3420e_board_step(
+    chip: Chip,
+    firmware: Firmware,
+    reply: &mut [u8],
+) -> FlatBoardAnswer
+    ensures { (result ≡ flat_step (board_step (record { chip = chip; firmware = firmware }) (length reply.old)))
+        × (reply.new ≡ step_buffer (record { chip = chip; firmware = firmware })
+        (step_checked (record { chip = chip; firmware = firmware }) (length reply.old)) reply.old) }
+{
+    capi::max3420e_board_step(chip, firmware, reply)
+}
+
+#[unsafe(no_mangle)]
+pub extern "C" fn max3420e_firmware_answer(
+    firmware: Firmware,
+    setup: &[u8],
+    reply: &mut [u8],
+) -> FlatRequestAnswer
+    ensures { (result ≡ flat_request (handled setup.now firmware reply.old).answer)
+        × (reply.new ≡ (handled setup.now firmware reply.old).buffer) }
+{
+    capi::max3420e_firmware_answer(firmware, setup, reply)
+}
