@@ -22,12 +22,16 @@ struct Recorded {
     whole: bool,
 }
 
+fn empty() -> Output {
+    Output::begin()
+}
+
 // ---- a lesson is played
 
 // Says why a file is not played.
 fn tell_refused(err: &impl Print, path: &[u8], file: &[u8], refusal: Refusal) {
     let mut page = [0u8; 65536];
-    let begun = output::put(err, b"max3420e: ", &mut page, Output::begin());
+    let begun = output::put(err, b"max3420e: ", &mut page, empty());
     let told = lesson_faults::put_refused(err, path, file, refusal, &mut page, begun);
     output::tell(err, &page, told);
 }
@@ -36,7 +40,7 @@ fn play(rt: &impl Print, err: &impl Print, path: &[u8], file: &[u8]) -> bool
     requires { reading_checked (lesson_of file.now) ≡ Accepted }
 {
     let mut page = [0u8; 65536];
-    let played = lesson_console::play(rt, path, file, &mut page, Output::begin());
+    let played = lesson_console::play(rt, path, file, &mut page, empty());
     files::finish(rt, err, &page, played)
 }
 
@@ -75,7 +79,7 @@ pub fn replay(rt: &(impl Files + Print), err: &impl Print, path: &[u8]) -> bool 
 fn put_place(err: &impl Print, path: &[u8], number: u64, page: &mut [u8]) -> Output
     ensures { result.filled ≤ length page.old }
 {
-    let begun = output::put(err, b"max3420e: ", page, Output::begin());
+    let begun = output::put(err, b"max3420e: ", page, empty());
     let named = output::put(err, path, page, begun);
     let placed = output::put_number(err, b" line ", number, page, named);
     output::put(err, b": ", page, placed)
@@ -169,7 +173,7 @@ fn tell_recorded(
     size: usize,
 ) -> bool {
     let mut page = [0u8; 65536];
-    let told = lesson_console::put_recorded(rt, path, count, size, &mut page, Output::begin());
+    let told = lesson_console::put_recorded(rt, path, count, size, &mut page, empty());
     files::finish(rt, err, &page, told)
 }
 
