@@ -31,5 +31,5 @@ swap() {
 }
 
 swap capi_classroom 'desk::event(classroom, DeskNumber(desk)' 'desk::event(classroom, model::EndpointNumber(desk)' DeskNumber EndpointNumber
-swap roster 'event(rt, roster, pupil, sent, bytes' 'event(rt, roster, pupil, Event { endpoint: pupil.number, ..sent }, bytes' EndpointNumber DeskNumber
+swap roster '^            event,$' '            Event { endpoint: self.number, ..event },' EndpointNumber DeskNumber
 echo "kinds: an endpoint's number is no desk's, and a desk's is no endpoint's"

@@ -2,64 +2,39 @@
 #![tactic(auto)]
 
 ghost use Rattle.std.specs.Prelude.{◌≡◌, true, ◌≤◌, length};
-ghost use Rattle.refusal.specs.Check.{unless_refused};
+ghost use Rattle.refusal.specs.Check.{unless_refused, tells};
 ghost use Rattle.chip.specs.Sound.{sound_chip};
 ghost use Rattle.firmware.specs.Answer.{handled};
 ghost use Rattle.request.specs.Record.{sound_firmware};
 ghost use Rattle.model.specs.Call.{Call, run_to, buffer_after};
-ghost use Rattle.spi.specs.Transfer.{transfer_tells, transfer_count};
-ghost use Rattle.bus.specs.EventCall.{event_tells, event_pid, event_count, answer_pid, answer_count};
+ghost use Rattle.spi.specs.Transfer.{transfer_count};
+ghost use Rattle.bus.specs.EventCall.{event_pid, event_count, answer_pid, answer_count};
 ghost use Rattle.rules.specs.Event.{max3420e};
 ghost use Rattle.step_transfers.specs.Step.{setup_read, served, setup_calls};
 ghost use Rattle.board.specs.Board.{board_answer, replied_step, step_checked, step_buffer};
-ghost use Rattle.board.specs.Board.{stepped_with, board_step, board_transfer, board_event, board_checked};
-ghost use Rattle.board.specs.Board.{step_tells, step_kind, step_count, stepped_kind, stepped_count};
+ghost use Rattle.board.specs.Board.{board_answer_with, board_step, board_transfer, board_event, board_checked};
+ghost use Rattle.board.specs.Board.{step_kind, step_count, stepped_kind, stepped_count};
 
 pub use board_record::Board;
 use board_record::firmware_at;
-use chip::{Chip, Pin};
+use chip::{CallAnswer, Chip};
 use event_answer::EventReply;
 use firmware::RequestReply;
 use model::Event;
 use refusal::Refusal;
-use spi::TransferReply;
 
-// Why a step is refused; nothing to serve; or what the firmware replied.
-#[derive(Clone, Copy)]
-pub enum StepReply {
-    Refused(Refusal),
-    Idle,
-    Stall,
-    Ack,
-    Data(u8),
-}
+pub type BoardTransfer = CallAnswer<Board, u16>;
 
-#[derive(Clone, Copy)]
-pub struct BoardTransfer {
-    pub board: Board,
-    pub reply: TransferReply,
-    pub pin: Pin,
-}
+pub type BoardEvent = CallAnswer<Board, EventReply>;
 
-#[derive(Clone, Copy)]
-pub struct BoardEvent {
-    pub board: Board,
-    pub reply: EventReply,
-    pub pin: Pin,
-}
-
-#[derive(Clone, Copy)]
-pub struct BoardStep {
-    pub board: Board,
-    pub reply: StepReply,
-    pub pin: Pin,
-}
+// Where there is nothing to serve, a step has no reply.
+pub type BoardStep = CallAnswer<Board, Option<RequestReply>>;
 
 // Both records after a step that serves a SETUP, and the firmware's reply.
 #[derive(Clone, Copy)]
 struct Served {
     board: Board,
-    reply: RequestReply,
+    reply: Result<RequestReply, Refusal>,
 }
 
 fn serve(board: Board, reply: &mut [u8]) -> Served
@@ -90,50 +65,42 @@ fn serve(board: Board, reply: &mut [u8]) -> Served
     }
 }
 
-// The answer of a step, with the pin of the record handed back.
-fn stepped(board: Board, reply: StepReply) -> BoardStep
-    ensures { result ≡ stepped_with board reply }
+// The answer with these records and this reply, and the pin of the chip's.
+fn answer_with<R>(board: Board, reply: Result<R, Refusal>) -> CallAnswer<Board, R>
+    ensures { result ≡ board_answer_with board reply }
 {
-    let g = board.chip.registers;
-    BoardStep {
-        board,
+    CallAnswer {
+        state: board,
         reply,
-        pin: g.pin(),
+        pin: board.chip.registers.pin(),
     }
 }
 
-fn reply_of(reply: RequestReply) -> StepReply
+fn reply_of(reply: Result<RequestReply, Refusal>) -> Result<Option<RequestReply>, Refusal>
     ensures { result ≡ replied_step reply }
 {
-    match reply {
-        RequestReply::Refused(refusal) => StepReply::Refused(refusal),
-        RequestReply::Stall => StepReply::Stall,
-        RequestReply::Ack => StepReply::Ack,
-        RequestReply::Data(n) => StepReply::Data(n),
-    }
+    reply.map(Some)
 }
 
 // The board step: serves a SETUP, if one waits.
 pub fn step(board: Board, reply: &mut [u8]) -> BoardStep
     ensures { (result ≡ board_step board (length reply.old))
         × (reply.new ≡ step_buffer board (step_checked board (length reply.old)) reply.old)
-        × (step_tells result.reply ≡ step_checked board (length reply.old))
+        × (tells result.reply ≡ step_checked board (length reply.old))
         × (step_kind result.reply ≡ stepped_kind board (step_checked board (length reply.old)))
         × (step_count result.reply ≡ stepped_count board (step_checked board (length reply.old))) }
 {
     if !board.is_sound() {
-        return stepped(board, StepReply::Refused(Refusal::Unsound));
+        return answer_with(board, Err(Refusal::Unsound));
     }
     if reply.len() < 64 {
-        return stepped(board, StepReply::Refused(Refusal::ShortBuffer));
+        return answer_with(board, Err(Refusal::ShortBuffer));
     }
     if board.chip.registers.epirq & Chip::SUDAVIRQ == 0 {
-        return stepped(board, StepReply::Idle);
+        return answer_with(board, Ok(None));
     }
     let served = serve(board, reply);
-    let after = served.board;
-    let kind = served.reply;
-    stepped(after, reply_of(kind))
+    answer_with(served.board, reply_of(served.reply))
 }
 
 // A transfer, as the chip's.
@@ -141,7 +108,7 @@ pub fn transfer(board: Board, bytes: &[u8], reply: &mut [u8]) -> BoardTransfer
     ensures { (result ≡ board_transfer board (Call.transfer bytes.now (length reply.old)))
         × (reply.new
         ≡ buffer_after (board_answer board (Call.transfer bytes.now (length reply.old))) reply.old)
-        × (transfer_tells result.reply ≡ board_checked board (Call.transfer bytes.now (length reply.old)))
+        × (tells result.reply ≡ board_checked board (Call.transfer bytes.now (length reply.old)))
         × (transfer_count result.reply
         ≡ unless_refused (board_checked board (Call.transfer bytes.now (length reply.old)))
         (length bytes.now)) }
@@ -149,21 +116,16 @@ pub fn transfer(board: Board, bytes: &[u8], reply: &mut [u8]) -> BoardTransfer
     let c = board.chip;
     let f = board.firmware;
     if !f.is_sound() {
-        let g = c.registers;
-        return BoardTransfer {
-            board,
-            reply: TransferReply::Refused(Refusal::Unsound),
-            pin: g.pin(),
-        };
+        return answer_with::<u16>(board, Err(Refusal::Unsound));
     }
     let answer = spi::transfer(c, bytes, reply);
-    let chip = answer.chip;
-    let kind = answer.reply;
-    let pin = answer.pin;
-    BoardTransfer {
-        board: Board { chip, firmware: f },
-        reply: kind,
-        pin,
+    CallAnswer {
+        state: Board {
+            chip: answer.state,
+            firmware: f,
+        },
+        reply: answer.reply,
+        pin: answer.pin,
     }
 }
 
@@ -172,7 +134,7 @@ pub fn event(board: Board, event: Event, payload: &[u8], reply: &mut [u8]) -> Bo
     ensures { (result ≡ board_event board (Call.event event payload.now (length reply.old)))
         × (reply.new
         ≡ buffer_after (board_answer board (Call.event event payload.now (length reply.old))) reply.old)
-        × (event_tells result.reply ≡ board_checked board (Call.event event payload.now (length reply.old)))
+        × (tells result.reply ≡ board_checked board (Call.event event payload.now (length reply.old)))
         × (event_pid result.reply ≡ answer_pid (board_answer board (Call.event event payload.now (length reply.old))))
         × (event_count result.reply
         ≡ answer_count (board_answer board (Call.event event payload.now (length reply.old)))) }
@@ -180,23 +142,15 @@ pub fn event(board: Board, event: Event, payload: &[u8], reply: &mut [u8]) -> Bo
     let c = board.chip;
     let f = board.firmware;
     if !f.is_sound() {
-        let g = c.registers;
-        return BoardEvent {
-            board,
-            reply: EventReply::Refused(Refusal::Unsound),
-            pin: g.pin(),
-        };
+        return answer_with::<EventReply>(board, Err(Refusal::Unsound));
     }
     let answer = bus::event(c, event, payload, reply);
-    let chip = answer.chip;
-    let kind = answer.reply;
-    let pin = answer.pin;
-    BoardEvent {
-        board: Board {
-            chip,
-            firmware: firmware_at(f, event, kind),
+    CallAnswer {
+        state: Board {
+            chip: answer.state,
+            firmware: firmware_at(f, event, answer.reply),
         },
-        reply: kind,
-        pin,
+        reply: answer.reply,
+        pin: answer.pin,
     }
 }

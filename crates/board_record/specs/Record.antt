@@ -1,5 +1,6 @@
 -- The board's records at power-on, when they are sound, and which events put the firmware's back.
-use Rattle.std.specs.Prelude.{Bool, true, false, cond, ◌&&◌, ◌||◌, eqb}
+use Rattle.refusal.specs.declared.Refusal.{Refusal}
+use Rattle.std.specs.Prelude.{Bool, true, false, cond, ◌&&◌, ◌||◌, eqb, Result, Ok, Err}
 use Rattle.chip.specs.Record.{power_on_chip}
 use Rattle.chip.specs.Sound.{sound_chip}
 use Rattle.request.specs.declared.Firmware.{Firmware}
@@ -16,18 +17,18 @@ abbrev pub sound_board : Board → Bool
 sound_board b = sound_chip b.chip && sound_firmware b.firmware
 
 -- power-on and a bus reset start that is seen put the firmware's record back: both are answered done
-abbrev pub is_done : EventReply → Bool
-is_done (reply.Refused r) = false
-is_done reply.Done = true
-is_done reply.Silence = false
-is_done reply.Ack = false
-is_done reply.Nak = false
-is_done reply.Stall = false
-is_done (reply.Data0 n) = false
-is_done (reply.Data1 n) = false
+abbrev pub is_done : Result EventReply Refusal → Bool
+is_done (Err r) = false
+is_done (Ok reply.Done) = true
+is_done (Ok reply.Silence) = false
+is_done (Ok reply.Ack) = false
+is_done (Ok reply.Nak) = false
+is_done (Ok reply.Stall) = false
+is_done (Ok (reply.Data0 n)) = false
+is_done (Ok (reply.Data1 n)) = false
 
 abbrev pub starts_anew : Event → Bool
 starts_anew e = eqb e.code 1 || eqb e.code 6
 
-abbrev pub firmware_for : Firmware → Event → EventReply → Firmware
+abbrev pub firmware_for : Firmware → Event → Result EventReply Refusal → Firmware
 firmware_for f e a = cond (starts_anew e && is_done a) power_on_firmware f

@@ -8,9 +8,10 @@ use chip::Chip;
 use event_answer::EventReply;
 use firmware::Firmware;
 use model::Event;
+use refusal::Refusal;
 
 #[repr(C)]
-#[derive(Clone, Copy)]
+#[derive(Clone, Copy, PartialEq, Eq)]
 pub struct Board {
     pub chip: Chip,
     pub firmware: Firmware,
@@ -35,23 +36,14 @@ impl Board {
     }
 }
 
-fn is_done(reply: EventReply) -> bool
+fn is_done(reply: Result<EventReply, Refusal>) -> bool
     ensures { result ≡ is_done reply }
 {
-    match reply {
-        EventReply::Refused(_refusal) => false,
-        EventReply::Done => true,
-        EventReply::Silence => false,
-        EventReply::Ack => false,
-        EventReply::Nak => false,
-        EventReply::Stall => false,
-        EventReply::Data0(_n) => false,
-        EventReply::Data1(_n) => false,
-    }
+    matches!(reply, Ok(EventReply::Done))
 }
 
 // Power-on and a bus reset start that is seen put the firmware's record back.
-pub fn firmware_at(firmware: Firmware, event: Event, reply: EventReply) -> Firmware
+pub fn firmware_at(firmware: Firmware, event: Event, reply: Result<EventReply, Refusal>) -> Firmware
     ensures { result ≡ firmware_for firmware event reply }
 {
     let done = is_done(reply);

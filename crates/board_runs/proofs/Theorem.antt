@@ -1,5 +1,6 @@
 -- A board call is a list of chip calls, so a run of board calls is a run of the theorem's: demand 3 holds after every list of board
 -- transfers, board events and board steps, refused ones included; both records are then sound, and refusal 1 never answers a run.
+use Rattle.std.specs.Prelude.{Ok, Err}
 use mathlib.Core.Path.{◌≡◌, refl, sym, ap, ◌∙◌, subst}
 use mathlib.Core.Bool.{Bool, true, false, cond, ◌&&◌}
 use mathlib.Core.List.{List, [], ◌∷◌}
@@ -9,8 +10,7 @@ use lib.Dec.{ltb}
 use lib.ListN.{replicate}
 use Rattle.bits.proofs.Cases.{cond_elim}
 use Rattle.refusal.specs.declared.Refusal.TheVariants.{Unsound, ShortBuffer}
-use Rattle.refusal.specs.declared.Checked.{Checked}
-use Rattle.refusal.specs.declared.Checked.TheVariants.{Accepted, Refused}
+use Rattle.refusal.specs.Check.{Checked}
 use Rattle.refusal.specs.Check.{check, checked_number}
 use Rattle.chip.specs.declared.Chip.{Chip}
 use Rattle.chip.specs.Record.{power_on_chip}
@@ -54,10 +54,10 @@ at_sound f (event e payload room) a s =
     cond_elim (λ (g : Firmware). sound_firmware g ≡ true) (starts_anew e && is_done (event_reply_of a)) (λ _. refl) (λ _. s)
 
 step_sound : (b : Board) (v : Checked) → sound_firmware b.firmware ≡ true → sound_firmware (step_firmware b v) ≡ true
-step_sound b Accepted s =
+step_sound b (Ok tt) s =
     cond_elim (λ (g : Firmware). sound_firmware g ≡ true) (sudav b.chip)
     (λ _. answer_sound (setup_read b.chip) b.firmware (replicate 64 0) s) (λ _. s)
-step_sound b (Refused r) s = s
+step_sound b (Err r) s = s
 
 firmware_sound : (b : Board) (k : BoardCall) → sound_firmware b.firmware ≡ true → sound_firmware (firmware_to b k) ≡ true
 firmware_sound b (on_chip k) s = at_sound b.firmware k (board_answer b k) s
@@ -82,9 +82,9 @@ board_reached_accepted ks k e =
     (run_firmware power_on_board ks refl)) ∙ e)
 
 -- nor a step: a sound board is refused for its buffer only
-short_only : (t : Bool) → check ((false, Unsound) ∷ (t, ShortBuffer) ∷ []) ≡ Refused Unsound → ⊥
+short_only : (t : Bool) → check ((false, Unsound) ∷ (t, ShortBuffer) ∷ []) ≡ Err Unsound → ⊥
 short_only true e = let z : ◌≡◌ {A = ℕ} 4 1 = ap checked_number e in absurd (omega arith)
 short_only false e = let z : ◌≡◌ {A = ℕ} 0 1 = ap checked_number e in absurd (omega arith)
 
-pub board_step_accepted : (ks : List BoardCall) (room : ℕ) → step_checked (board_run_to power_on_board ks) room ≡ Refused Unsound → ⊥
+pub board_step_accepted : (ks : List BoardCall) (room : ℕ) → step_checked (board_run_to power_on_board ks) room ≡ Err Unsound → ⊥
 board_step_accepted ks room e = short_only (ltb room 64) (rw (board_reached_sound ks) at e)

@@ -1,19 +1,20 @@
 -- Whole enumerations on the board, each a list of board calls with its answers, from the power-on records of chip and firmware; worked out
 -- by hand from document 01. All numbers in hex.
-use Rattle.std.specs.Prelude.{true, false, List, [], ◌∷◌, ◌++◌, ℕ, length, take, replicate, get_or}
+use Rattle.refusal.specs.declared.Refusal.{Refusal}
+use Rattle.std.specs.Prelude.{true, false, List, [], ◌∷◌, ◌++◌, ℕ, length, take, replicate, get_or, Option, Some, None, Result, Ok}
 use Rattle.descriptor.specs.Table.{device, configuration, report, strings}
 use Rattle.model.specs.Reply.{Reply, transferred, done, silence, ack, stall, sent}
 use Rattle.model.specs.Call.{Call, transfer, event, Answer, answered}
 use Rattle.board_record.specs.declared.Board.{Board}
-use Rattle.board.specs.declared.StepReply.{StepReply}
-use Rattle.board.specs.declared.StepReply.TheVariants.{Idle, Stall, Ack, Data}
+use Rattle.firmware.specs.declared.RequestReply.{RequestReply}
+use Rattle.firmware.specs.declared.RequestReply.TheVariants.{Stall, Ack, Data}
 use Rattle.board.specs.Board.{on_chip, steps, board_answer, step_checked, step_reply_of, step_buffer, step_count, board_to}
 use Rattle.board_record.specs.Record.{power_on_board}
 
 -- a transfer or an event with its answer; or the step, lent 64 bytes, with its reply and the bytes that it counts
 pub data Play : Type 0 where
   calls : Call → Answer → Play
-  serves : StepReply → List ℕ → Play
+  serves : Result (Option RequestReply) Refusal → List ℕ → Play
 
 abbrev pub served_by : Board → Play
 served_by b =
@@ -86,15 +87,15 @@ status_out_at address a =
 -- data to the host, one packet
 abbrev pub reads : ℕ → List ℕ → List ℕ → List Play
 reads address request vs =
-    setup_at address request ∷ serves (Data (length vs)) vs ∷ in_at address 0 (sent true vs) ∷ status_out_at address ack ∷ []
+    setup_at address request ∷ serves (Ok (Some (Data (length vs)))) vs ∷ in_at address 0 (sent true vs) ∷ status_out_at address ack ∷ []
 
 -- no data: the status stage
 abbrev pub writes : ℕ → List ℕ → List Play
-writes address request = setup_at address request ∷ serves Ack [] ∷ in_at address 0 (sent true []) ∷ []
+writes address request = setup_at address request ∷ serves (Ok (Some Ack)) [] ∷ in_at address 0 (sent true []) ∷ []
 
 -- a request that is not answered
 abbrev pub refuses_request : ℕ → List ℕ → List Play
-refuses_request address request = setup_at address request ∷ serves Stall [] ∷ in_at address 0 stall ∷ []
+refuses_request address request = setup_at address request ∷ serves (Ok (Some Stall)) [] ∷ in_at address 0 stall ∷ []
 
 -- GET_DESCRIPTOR of a type and index, with wLength
 abbrev pub descriptor : ℕ → ℕ → ℕ → List ℕ
@@ -107,7 +108,7 @@ string i = reads 0x07 (descriptor 0x03 i 0xff) (get_or strings i [])
 
 -- powered, stable, VBUS, connected; a bus reset
 abbrev pub connected : List Play
-connected = signals 1 done ∷ signals 2 done ∷ signals 3 done ∷ serves Idle [] ∷ spi (0x7a ∷ 0x08 ∷ []) ∷ signals 6 done ∷ signals 7 done ∷
+connected = signals 1 done ∷ signals 2 done ∷ signals 3 done ∷ serves (Ok None) [] ∷ spi (0x7a ∷ 0x08 ∷ []) ∷ signals 6 done ∷ signals 7 done ∷
     []
 
 -- the device descriptor, 8 bytes then 18; SET_ADDRESS 7 with its status stage; the configuration, 9 then 34; strings 0 to 3;
@@ -153,7 +154,7 @@ reset_in_middle =
     enumerated
     ++ (spi (0x7a ∷ 0x00 ∷ []) ∷ signals 6 silence ∷ spi (0x7a ∷ 0x08 ∷ []) ∷ [])
     ++ reads 0x07 (0x80 ∷ 0x08 ∷ 0 ∷ 0 ∷ 0 ∷ 0 ∷ 0x01 ∷ 0 ∷ []) (0x01 ∷ [])
-    ++ (setup_at 0x07 (descriptor 0x01 0 0x12) ∷ signals 6 done ∷ serves Idle [] ∷ signals 7 done ∷ [])
+    ++ (setup_at 0x07 (descriptor 0x01 0 0x12) ∷ signals 6 done ∷ serves (Ok None) [] ∷ signals 7 done ∷ [])
     ++ reads 0 (0x80 ∷ 0x08 ∷ 0 ∷ 0 ∷ 0 ∷ 0 ∷ 0x01 ∷ 0 ∷ []) (0x00 ∷ [])
     ++ refuses_request 0 (0x82 ∷ 0x00 ∷ 0 ∷ 0 ∷ 0x83 ∷ 0 ∷ 0x02 ∷ 0 ∷ [])
 

@@ -9,8 +9,8 @@ use Rattle.bus.specs.EventCall.{event_answer}
 
 -- the record that the call returns
 abbrev pub made_to : Chip → Call → Chip
-made_to c (transfer bytes room) = (transfer_answer c (transfer bytes room)).chip
-made_to c (event e payload room) = (event_answer c e payload room).chip
+made_to c (transfer bytes room) = (transfer_answer c (transfer bytes room)).state
+made_to c (event e payload room) = (event_answer c e payload room).state
 
 unfoldable pub made_run_to : Chip → List Call → Chip
 made_run_to c [] = c

@@ -1,5 +1,6 @@
 // The data bytes of a burst at R0 to R4, on the endpoint that the register belongs to (document 01, "Writes" and "Reads"). The buffer
-// is taken out and put back once for a burst, not for each byte.
+// is taken out and put back once for a burst, not for each byte. What is common is `store_all` and `read_all`; the rest is the endpoint's own
+// record, as C programs hold it. The bytes sent and the lent buffer stay two slices: a pair of them would only say their two facts again.
 #![tactic(auto)]
 
 ghost use Rattle.std.specs.Prelude.{◌≡◌, true, false, ◌+◌, ◌<◌, ◌≤◌, min, length, get_or};
@@ -122,11 +123,9 @@ fn read_all(packet: &[u8], readpos: u8, bytes: &[u8], reply: &mut [u8]) -> u8
 {
     let end = packet.len() as u8;
     let mut position = readpos;
-    let mut i = 1;
-    while i < bytes.len() {
+    for i in 1..bytes.len() {
         reply[i] = byte_at(packet, position);
         position = fifos::move_on(position, end);
-        i += 1;
     }
     position
 }

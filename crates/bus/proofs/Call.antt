@@ -1,47 +1,35 @@
 -- The public call is a call to the MAX3420E as a model: the record that it hands back and its reply are the model's. And the numbers
 -- of its reply are those of the model's answer.
+use Rattle.std.specs.Prelude.{Ok, Err}
 use mathlib.Core.Path.{◌≡◌, refl}
 use mathlib.Core.Bool.{true, false}
 use mathlib.Core.List.{List}
 use Prim.Native.Nat.{ℕ}
 use lib.ListN.{length}
 use Rattle.refusal.specs.declared.Refusal.{Refusal}
-use Rattle.refusal.specs.declared.Checked.{Checked}
-use Rattle.refusal.specs.declared.Checked.TheVariants.{Accepted, Refused}
+use Rattle.refusal.specs.Check.{Checked, tells}
 use Rattle.chip.specs.declared.Chip.{Chip}
 use Rattle.model.specs.declared.Event.{Event}
-use Rattle.model.specs.Reply.{Reply, transferred, done, silence, ack, nak, stall, sent}
+use Rattle.model.specs.Reply.{transferred, done, silence, ack, nak, stall, sent}
 use Rattle.model.specs.Call.{Call, event, Answer, refused, answered, call_to, answer_of}
-use Rattle.model.specs.Call.{accepted_outcome, checked, checked_answer}
+use Rattle.model.specs.Call.{checked, checked_answer}
 use Rattle.rules.specs.Event.{max3420e}
-use Rattle.event_answer.specs.declared.EventReply.TheVariants.{Refused as RefusedReply}
-use Rattle.event_answer.specs.declared.EventAnswer.{EventAnswer}
-use Rattle.event_answer.specs.Answer.{event_reply, event_answer_with, outcome_answer, outcome_buffer}
+use Rattle.event_answer.specs.Answer.{EventAnswer, event_answer_with, outcome_answer, outcome_buffer}
 use Rattle.bus.specs.EventCall.{event_outcome, event_reply_of, call_answer, event_answer, event_buffer}
-use Rattle.bus.specs.EventCall.{event_tells, event_pid, event_count, answer_pid, answer_count}
+use Rattle.bus.specs.EventCall.{event_pid, event_count, answer_pid, answer_count}
 
 pub event_call : (c : Chip) (e : Event) (vs : List ℕ) (room : ℕ)
-    → ((event_answer c e vs room).chip ≡ call_to max3420e c (event e vs room))
+    → ((event_answer c e vs room).state ≡ call_to max3420e c (event e vs room))
     × ((event_answer c e vs room).reply ≡ event_reply_of (answer_of max3420e c (event e vs room)))
 event_call c e vs room = (refl, refl)
 
 -- ---- numbers
 
-no_refusal : (a : Reply) → event_tells (event_reply a) ≡ Accepted
-no_refusal (transferred vs) = refl
-no_refusal done = refl
-no_refusal silence = refl
-no_refusal ack = refl
-no_refusal nak = refl
-no_refusal stall = refl
-no_refusal (sent true vs) = refl
-no_refusal (sent false vs) = refl
+checked_refusal : (c : Chip) (k : Call) (v : Checked) → tells (event_reply_of (checked_answer max3420e c k v)) ≡ v
+checked_refusal c k (Ok tt) = refl
+checked_refusal c k (Err r) = refl
 
-checked_refusal : (c : Chip) (k : Call) (v : Checked) → event_tells (event_reply_of (checked_answer max3420e c k v)) ≡ v
-checked_refusal c k Accepted = no_refusal (accepted_outcome max3420e c k).gives
-checked_refusal c k (Refused r) = refl
-
-pub refusal_of_law : (c : Chip) (k : Call) → event_tells (event_reply_of (answer_of max3420e c k)) ≡ checked max3420e c k
+pub refusal_of_law : (c : Chip) (k : Call) → tells (event_reply_of (answer_of max3420e c k)) ≡ checked max3420e c k
 unfolding answer_of
 refusal_of_law c k = checked_refusal c k (checked max3420e c k)
 
@@ -68,7 +56,7 @@ count_of (answered (sent true vs)) = refl
 count_of (answered (sent false vs)) = refl
 
 pub numbers : (c : Chip) (k : Call) (r : EventAnswer) → r ≡ call_answer c k
-    → (event_tells r.reply ≡ checked max3420e c k)
+    → (tells r.reply ≡ checked max3420e c k)
     × (event_pid r.reply ≡ answer_pid (answer_of max3420e c k))
     × (event_count r.reply ≡ answer_count (answer_of max3420e c k))
 numbers c k r e = rw e (refusal_of_law c k, pid_of (answer_of max3420e c k), count_of (answer_of max3420e c k))
@@ -76,12 +64,12 @@ numbers c k r e = rw e (refusal_of_law c k, pid_of (answer_of max3420e c k), cou
 -- ---- a call that is refused, and one that is not
 
 module _ (c : Chip) (e : Event) (vs buffer : List ℕ) where
-  pub refused_answer : (r : Refusal) → checked max3420e c (event e vs (length buffer)) ≡ Refused r
-      → (event_answer_with c (RefusedReply r) ≡ event_answer c e vs (length buffer)) × (buffer ≡ event_buffer c e vs buffer)
+  pub refused_answer : (r : Refusal) → checked max3420e c (event e vs (length buffer)) ≡ Err r
+      → (event_answer_with c (Err r) ≡ event_answer c e vs (length buffer)) × (buffer ≡ event_buffer c e vs buffer)
   unfolding call_to answer_of
   refused_answer r t = rw t (refl, refl)
 
-  pub accepted_answer : checked max3420e c (event e vs (length buffer)) ≡ Accepted
+  pub accepted_answer : checked max3420e c (event e vs (length buffer)) ≡ (Ok tt)
       → (outcome_answer (event_outcome c e vs) ≡ event_answer c e vs (length buffer))
       × (outcome_buffer (event_outcome c e vs) buffer ≡ event_buffer c e vs buffer)
   unfolding call_to answer_of

@@ -1,4 +1,5 @@
 -- An event goes by the rule of its code; a choice goes by its test.
+use Rattle.std.specs.Prelude.{Ok}
 use mathlib.Core.Path.{◌≡◌, ap, subst}
 use mathlib.Core.Bool.{Bool, true, false, cond}
 use mathlib.Core.List.{List}
@@ -41,11 +42,11 @@ below_ten n most a b c = omega arith
 -- ---- events that have to be seen
 
 pub unseen : (f : Chip → Chip) (c : Chip) (e : Event) (vs : List ℕ) → seen (connection_of c) ≡ false
-    → event_answer_with c Silence ≡ outcome_answer (when_seen f c e vs)
+    → event_answer_with c (Ok Silence) ≡ outcome_answer (when_seen f c e vs)
 unseen f c e vs t = ap outcome_answer (choice_false (seen (connection_of c)) (outcome (f c) done) (outcome c silence) t)
 
 pub when_seen_law : (f : Chip → Chip) (c : Chip) (e : Event) (vs : List ℕ) → seen (connection_of c) ≡ true
-    → event_answer_with (f c) Done ≡ outcome_answer (when_seen f c e vs)
+    → event_answer_with (f c) (Ok Done) ≡ outcome_answer (when_seen f c e vs)
 when_seen_law f c e vs t = ap outcome_answer (choice_true (seen (connection_of c)) (outcome (f c) done) (outcome c silence) t)
 
 -- a code of 6 to 9 has such a rule

@@ -1,7 +1,7 @@
 -- The answer of the public call, by the MAX3420E as a model; and what it is in numbers: refusal, PID, count.
-use Rattle.std.specs.Prelude.{cond, List, ℕ, length, get_or}
-use Rattle.refusal.specs.declared.Checked.{Checked}
-use Rattle.refusal.specs.declared.Checked.TheVariants as checked
+use Rattle.refusal.specs.declared.Refusal.{Refusal}
+use Rattle.std.specs.Prelude.{cond, List, ℕ, length, get_or, Result, Ok, Err}
+use Rattle.refusal.specs.Check.{tells}
 use Rattle.refusal.specs.Check.{checked_number, checked_found}
 use Rattle.chip.specs.declared.Chip.{Chip}
 use Rattle.model.specs.declared.Event.{Event}
@@ -9,9 +9,8 @@ use Rattle.model.specs.Reply.{Outcome, Reply, transferred, done, silence, ack, n
 use Rattle.model.specs.Call.{Call, event, Answer, refused, answered, call_to, answer_of, buffer_after}
 use Rattle.rules.specs.Event.{event_rules, no_event, max3420e}
 use Rattle.event_answer.specs.declared.EventReply.{EventReply}
-use Rattle.event_answer.specs.declared.EventReply.TheVariants.{Refused, Done, Silence, Ack, Nak, Stall, Data0, Data1}
-use Rattle.event_answer.specs.declared.EventAnswer.{EventAnswer}
-use Rattle.event_answer.specs.Answer.{event_reply, event_answer_with}
+use Rattle.event_answer.specs.declared.EventReply.TheVariants.{Done, Silence, Ack, Nak, Stall, Data0, Data1}
+use Rattle.event_answer.specs.Answer.{EventAnswer, event_reply, event_answer_with}
 
 -- what an accepted event leaves and is replied, by its code
 abbrev pub event_outcome : Chip → Event → List ℕ → Outcome Chip Reply
@@ -19,9 +18,9 @@ event_outcome c e vs = get_or event_rules e.code no_event c e vs
 
 -- ---- the whole answer
 
-abbrev pub event_reply_of : Answer → EventReply
-event_reply_of (refused r) = Refused r
-event_reply_of (answered a) = event_reply a
+abbrev pub event_reply_of : Answer → Result EventReply Refusal
+event_reply_of (refused r) = Err r
+event_reply_of (answered a) = Ok (event_reply a)
 
 -- the record after the call, its reply, and the pin of that record
 abbrev pub call_answer : Chip → Call → EventAnswer
@@ -36,45 +35,34 @@ event_buffer c e vs buffer = buffer_after (answer_of max3420e c (event e vs (len
 
 -- ---- in numbers
 
--- what a reply tells of the check
-abbrev pub event_tells : EventReply → Checked
-event_tells (Refused r) = checked.Refused r
-event_tells Done = checked.Accepted
-event_tells Silence = checked.Accepted
-event_tells Ack = checked.Accepted
-event_tells Nak = checked.Accepted
-event_tells Stall = checked.Accepted
-event_tells (Data0 n) = checked.Accepted
-event_tells (Data1 n) = checked.Accepted
-
 -- the number of refusal, and the length that it tells; 0 is none
-abbrev pub event_refusal : EventReply → ℕ
-event_refusal r = checked_number (event_tells r)
+abbrev pub event_refusal : Result EventReply Refusal → ℕ
+event_refusal r = checked_number (tells r)
 
-abbrev pub event_found : EventReply → ℕ
-event_found r = checked_found (event_tells r)
+abbrev pub event_found : Result EventReply Refusal → ℕ
+event_found r = checked_found (tells r)
 
 -- the PID byte on the bus (USB 2.0, 8.3.1: four bits, and their complement above); 0 where nothing is sent
-abbrev pub event_pid : EventReply → ℕ
-event_pid (Refused r) = 0
-event_pid Done = 0
-event_pid Silence = 0
-event_pid Ack = 0xD2
-event_pid Nak = 0x5A
-event_pid Stall = 0x1E
-event_pid (Data0 n) = 0xC3
-event_pid (Data1 n) = 0x4B
+abbrev pub event_pid : Result EventReply Refusal → ℕ
+event_pid (Err r) = 0
+event_pid (Ok Done) = 0
+event_pid (Ok Silence) = 0
+event_pid (Ok Ack) = 0xD2
+event_pid (Ok Nak) = 0x5A
+event_pid (Ok Stall) = 0x1E
+event_pid (Ok (Data0 n)) = 0xC3
+event_pid (Ok (Data1 n)) = 0x4B
 
 -- the bytes of the data packet; 0 where there is none
-abbrev pub event_count : EventReply → ℕ
-event_count (Refused r) = 0
-event_count Done = 0
-event_count Silence = 0
-event_count Ack = 0
-event_count Nak = 0
-event_count Stall = 0
-event_count (Data0 n) = n
-event_count (Data1 n) = n
+abbrev pub event_count : Result EventReply Refusal → ℕ
+event_count (Err r) = 0
+event_count (Ok Done) = 0
+event_count (Ok Silence) = 0
+event_count (Ok Ack) = 0
+event_count (Ok Nak) = 0
+event_count (Ok Stall) = 0
+event_count (Ok (Data0 n)) = n
+event_count (Ok (Data1 n)) = n
 
 -- the same of the model's answer
 abbrev pub answer_pid : Answer → ℕ

@@ -2,15 +2,14 @@
 // which rule it goes by; each way makes its answer and returns it.
 #![tactic(auto)]
 
-ghost use Rattle.std.specs.Prelude.{◌≡◌, true, List, ℕ, ◌≤◌, ◌<◌, length};
-ghost use Rattle.refusal.specs.declared.Checked.TheVariants.{Accepted};
-ghost use Rattle.refusal.specs.Check.{check, checked_number};
+ghost use Rattle.std.specs.Prelude.{◌≡◌, true, List, ℕ, ◌≤◌, ◌<◌, length, Ok};
+ghost use Rattle.refusal.specs.Check.{check, tells};
 ghost use Rattle.chip.specs.Sound.{sound_chip};
-ghost use Rattle.model.specs.Call.{event_grounds, event as eventCall, checked, answer_of};
+ghost use Rattle.model.specs.Call.{event_grounds, event as event_call, checked, answer_of};
 ghost use Rattle.rules.specs.Event.{raise_usbirq, stable_event, vbus_on_event, vbus_off_event, pins_event};
 ghost use Rattle.rules.specs.Event.{setup_event, out_event, in_event, max3420e};
 ghost use Rattle.event_answer.specs.Answer.{outcome_answer, outcome_buffer};
-ghost use Rattle.bus.specs.EventCall.{event_outcome, event_answer, event_buffer, event_tells, event_pid, event_count, answer_pid};
+ghost use Rattle.bus.specs.EventCall.{event_outcome, event_answer, event_buffer, event_pid, event_count, answer_pid};
 ghost use Rattle.bus.specs.EventCall.{answer_count};
 
 use chip::Chip;
@@ -36,10 +35,10 @@ fn settle_oscillator(mut chip: Chip, event: Event) -> EventAnswer
     ensures { (vs : List ℕ) → result ≡ outcome_answer (stable_event chip event vs) }
 {
     if chip.registers.usbctl & Chip::CHIPRES != 0 {
-        return answer_with(chip, EventReply::Done);
+        return answer_with(chip, Ok(EventReply::Done));
     }
     chip.power.oscok = 1;
-    answer_with(raise_usbirq(chip, Chip::OSCOKIRQ), EventReply::Done)
+    answer_with(raise_usbirq(chip, Chip::OSCOKIRQ), Ok(EventReply::Done))
 }
 
 // VBUS comes; an interrupt request on a change only.
@@ -47,10 +46,10 @@ fn raise_vbus(mut chip: Chip, event: Event) -> EventAnswer
     ensures { (vs : List ℕ) → result ≡ outcome_answer (vbus_on_event chip event vs) }
 {
     if chip.power.vbus == 1 {
-        return answer_with(chip, EventReply::Done);
+        return answer_with(chip, Ok(EventReply::Done));
     }
     chip.power.vbus = 1;
-    answer_with(raise_usbirq(chip, Chip::VBUSIRQ), EventReply::Done)
+    answer_with(raise_usbirq(chip, Chip::VBUSIRQ), Ok(EventReply::Done))
 }
 
 // VBUS goes.
@@ -58,10 +57,10 @@ fn drop_vbus(mut chip: Chip, event: Event) -> EventAnswer
     ensures { (vs : List ℕ) → result ≡ outcome_answer (vbus_off_event chip event vs) }
 {
     if chip.power.vbus != 1 {
-        return answer_with(chip, EventReply::Done);
+        return answer_with(chip, Ok(EventReply::Done));
     }
     chip.power.vbus = 0;
-    answer_with(raise_usbirq(chip, Chip::NOVBUSIRQ), EventReply::Done)
+    answer_with(raise_usbirq(chip, Chip::NOVBUSIRQ), Ok(EventReply::Done))
 }
 
 // The input pins, low four bits, are bits 7..4 of R20.
@@ -70,7 +69,7 @@ fn set_pins(mut chip: Chip, event: Event) -> EventAnswer
 {
     let iopins = (chip.registers.iopins & 0x0f) | ((event.pins & 0x0f) * 16);
     chip.registers.iopins = iopins;
-    answer_with(chip, EventReply::Done)
+    answer_with(chip, Ok(EventReply::Done))
 }
 
 fn power_event(chip: Chip, event: Event) -> EventAnswer
@@ -79,7 +78,10 @@ fn power_event(chip: Chip, event: Event) -> EventAnswer
 {
     let code = event.code;
     match code {
-        1 => answer_with(reset::chip_after(Reset::PowerOn, chip), EventReply::Done),
+        1 => answer_with(
+            reset::chip_after(Reset::PowerOn, chip),
+            Ok(EventReply::Done),
+        ),
         2 => settle_oscillator(chip, event),
         3 => raise_vbus(chip, event),
         4 => drop_vbus(chip, event),
@@ -94,14 +96,17 @@ fn bus_event(chip: Chip, event: Event) -> EventAnswer
     ensures { (vs : List ℕ) → result ≡ outcome_answer (event_outcome chip event vs) }
 {
     if !verdicts::seen(chip) {
-        return answer_with(chip, EventReply::Silence);
+        return answer_with(chip, Ok(EventReply::Silence));
     }
     let code = event.code;
     match code {
-        6 => answer_with(reset::chip_after(Reset::BusReset, chip), EventReply::Done),
-        7 => answer_with(raise_usbirq(chip, Chip::URESDNIRQ), EventReply::Done),
-        8 => answer_with(raise_usbirq(chip, Chip::SUSPIRQ), EventReply::Done),
-        _ => answer_with(raise_usbirq(chip, Chip::BUSACTIRQ), EventReply::Done),
+        6 => answer_with(
+            reset::chip_after(Reset::BusReset, chip),
+            Ok(EventReply::Done),
+        ),
+        7 => answer_with(raise_usbirq(chip, Chip::URESDNIRQ), Ok(EventReply::Done)),
+        8 => answer_with(raise_usbirq(chip, Chip::SUSPIRQ), Ok(EventReply::Done)),
+        _ => answer_with(raise_usbirq(chip, Chip::BUSACTIRQ), Ok(EventReply::Done)),
     }
 }
 
@@ -114,7 +119,7 @@ fn take_setup(chip: Chip, event: Event, payload: &[u8]) -> EventAnswer
     if verdicts::heard(chip, event.damaged, event.address) & (event.endpoint.0 == 0) {
         return out_transactions::setup(chip, payload);
     }
-    answer_with(chip, EventReply::Silence)
+    answer_with(chip, Ok(EventReply::Silence))
 }
 
 fn take_out(chip: Chip, event: Event, payload: &[u8]) -> EventAnswer
@@ -122,13 +127,13 @@ fn take_out(chip: Chip, event: Event, payload: &[u8]) -> EventAnswer
     ensures { result ≡ outcome_answer (out_event chip event payload.now) }
 {
     if !verdicts::heard(chip, event.damaged, event.address) {
-        return answer_with(chip, EventReply::Silence);
+        return answer_with(chip, Ok(EventReply::Silence));
     }
     let number = event.endpoint.0;
     match number {
         0 => out_transactions::out0(chip, event.data1, payload),
         1 => out_transactions::out1(chip, event.data1, payload),
-        _ => answer_with(chip, EventReply::Silence),
+        _ => answer_with(chip, Ok(EventReply::Silence)),
     }
 }
 
@@ -138,49 +143,48 @@ fn take_in(chip: Chip, event: Event, reply: &mut [u8]) -> EventAnswer
         × (reply.new ≡ outcome_buffer (in_event chip event vs) reply.old) }
 {
     if !verdicts::heard(chip, false, event.address) {
-        return answer_with(chip, EventReply::Silence);
+        return answer_with(chip, Ok(EventReply::Silence));
     }
     let number = event.endpoint.0;
     if (number == 0) | (number == 2) | (number == 3) {
         let endpoint = event.endpoint;
         return in_transactions::answer(chip, endpoint, event.acknowledged, reply);
     }
-    answer_with(chip, EventReply::Silence)
+    answer_with(chip, Ok(EventReply::Silence))
 }
 
 // ---- the call
 
-// The number of refusal: 1, 4, 5, 6, 8, 7, in this order, or 0. A number, since a refusal with its length would go with the record
-// through every way of an accepted event.
-fn check_event(sound: bool, event: Event, count: usize, room: usize) -> u8
-    ensures { result ≡ checked_number (check (event_grounds sound event count room)) }
+// 1, 4, 5, 6, 8, 7, in this order.
+fn check_event(sound: bool, event: Event, count: usize, room: usize) -> Result<(), Refusal>
+    ensures { result ≡ check (event_grounds sound event count room) }
 {
     let code = event.code;
     let far = (127 < event.address) | (15 < event.endpoint.0);
     if !sound {
-        return 1;
+        return Err(Refusal::Unsound);
     }
     if (code == 12) & (room < 64) {
-        return 4;
+        return Err(Refusal::ShortBuffer);
     }
     if (code == 0) | (12 < code) {
-        return 5;
+        return Err(Refusal::UnknownEvent);
     }
     if (code == 11) & (64 < count) {
-        return 6;
+        return Err(Refusal::OutPayload(count));
     }
     if (code == 10) & (count != 8) {
-        return 8;
+        return Err(Refusal::SetupPayload(count));
     }
     if ((code == 10) | (code == 11) | (code == 12)) & far {
-        return 7;
+        return Err(Refusal::BadAddress);
     }
-    0
+    Ok(())
 }
 
 // An event that is not refused.
 fn accept(chip: Chip, event: Event, payload: &[u8], reply: &mut [u8]) -> EventAnswer
-    requires { check (event_grounds (sound_chip chip) event (length payload.now) (length reply.old)) ≡ Accepted }
+    requires { check (event_grounds (sound_chip chip) event (length payload.now) (length reply.old)) ≡ Ok tt }
     ensures { (result ≡ outcome_answer (event_outcome chip event payload.now))
         × (reply.new ≡ outcome_buffer (event_outcome chip event payload.now) reply.old) }
 {
@@ -204,17 +208,15 @@ fn accept(chip: Chip, event: Event, payload: &[u8], reply: &mut [u8]) -> EventAn
 pub fn event(chip: Chip, event: Event, payload: &[u8], reply: &mut [u8]) -> EventAnswer
     ensures value { (result ≡ event_answer chip event payload.now (length reply.old))
         × (reply.new ≡ event_buffer chip event payload.now reply.old) }
-    ensures numbers { (event_tells result.reply
-        ≡ checked max3420e chip (eventCall event payload.now (length reply.old)))
+    ensures numbers { (tells result.reply
+        ≡ checked max3420e chip (event_call event payload.now (length reply.old)))
         × (event_pid result.reply
-        ≡ answer_pid (answer_of max3420e chip (eventCall event payload.now (length reply.old))))
+        ≡ answer_pid (answer_of max3420e chip (event_call event payload.now (length reply.old))))
         × (event_count result.reply
-        ≡ answer_count (answer_of max3420e chip (eventCall event payload.now (length reply.old)))) }
+        ≡ answer_count (answer_of max3420e chip (event_call event payload.now (length reply.old)))) }
 {
-    let number = check_event(chip.is_sound(), event, payload.len(), reply.len());
-    if number != 0 {
-        let refusal = Refusal::numbered(number, payload.len());
-        return answer_with(chip, EventReply::Refused(refusal));
+    match check_event(chip.is_sound(), event, payload.len(), reply.len()) {
+        Err(refusal) => answer_with(chip, Err(refusal)),
+        Ok(()) => accept(chip, event, payload, reply),
     }
-    accept(chip, event, payload, reply)
 }

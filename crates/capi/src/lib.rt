@@ -1,5 +1,6 @@
 // The C interface (include/max3420e.h). C programs hold the model's own records, so a function promises what the inner one does, its
 // answer flattened; a flag that is neither 0 nor 1 makes a record unsound, and is refused as such.
+// An event's code and marks are numbers, since C passes them.
 #![tactic(auto)]
 
 ghost use Rattle.std.specs.Prelude.{◌≡◌, length};
@@ -15,10 +16,7 @@ ghost use Rattle.capi.specs.Arguments.{event_of};
 
 use board::Board;
 use chip::Chip;
-use flat::{
-    FlatAnswer, FlatBoardAnswer, FlatRequestAnswer, flat_event, flat_request, flat_step,
-    flat_transfer,
-};
+use flat::{FlatAnswer, FlatBoardAnswer, FlatRequestAnswer, flat_answer, flat_request, flat_step};
 use model::{EndpointNumber, Event};
 use request::Firmware;
 
@@ -58,7 +56,7 @@ pub fn max3420e_transfer(chip: Chip, bytes: &[u8], reply: &mut [u8]) -> FlatAnsw
         × (reply.new
         ≡ buffer_after (answer_of max3420e chip (Call.transfer bytes.now (length reply.old))) reply.old) }
 {
-    flat_transfer(spi::transfer(chip, bytes, reply))
+    flat_answer(spi::transfer(chip, bytes, reply))
 }
 
 pub fn max3420e_event(
@@ -79,7 +77,7 @@ pub fn max3420e_event(
         payload.now reply.old) }
 {
     let event = event_of(code, pins, address, endpoint, damaged, data1, acknowledged);
-    flat_event(bus::event(chip, event, payload, reply))
+    flat_answer(bus::event(chip, event, payload, reply))
 }
 
 // ---- a chip with the board's own firmware, and that firmware alone

@@ -1,4 +1,4 @@
-// What C programs call (include/max3420e.h): the functions of crate capi, each with the same promise, exported as a static library. A
+// What C programs call (include/max3420e.h), with C's numbers: the functions of crate capi, each with the same promise, exported as a static library. A
 // function of a library exports nothing.
 #![tactic(auto)]
 

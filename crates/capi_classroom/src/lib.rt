@@ -1,5 +1,6 @@
 // The C interface of the classroom (include/max3420e.h): a function promises what the inner one does, its answer flattened. It is an
 // archive of its own: the calls on a chip alone stay inlined in libcapi.a (docs/BENCHMARK.md).
+// An event's code and marks are numbers, as in crate capi.
 #![tactic(auto)]
 
 ghost use Rattle.std.specs.Prelude.{◌≡◌, length};
@@ -13,8 +14,7 @@ ghost use Rattle.capi_classroom.specs.Arguments.{desk_number};
 use capi::event_of;
 use classroom::{Classroom, DeskNumber};
 use flat_classroom::{
-    FlatDeskAnswer, FlatDeskStep, FlatTeacherAnswer, flat_desk_event, flat_desk_step,
-    flat_desk_transfer, flat_teacher,
+    FlatDeskAnswer, FlatDeskStep, FlatTeacherAnswer, flat_desk_answer, flat_desk_step, flat_teacher,
 };
 
 pub fn max3420e_classroom_start() -> Classroom
@@ -46,7 +46,7 @@ pub fn max3420e_desk_transfer(
         (Call.transfer bytes.now (length reply.old))))
         × (reply.new ≡ transfer_lent classroom (desk_number desk) key bytes.now reply.old) }
 {
-    flat_desk_transfer(desk::transfer(classroom, DeskNumber(desk), key, bytes, reply))
+    flat_desk_answer(desk::transfer(classroom, DeskNumber(desk), key, bytes, reply))
 }
 
 pub fn max3420e_desk_event(
@@ -69,7 +69,7 @@ pub fn max3420e_desk_event(
         payload.now reply.old) }
 {
     let event = event_of(code, pins, address, endpoint, damaged, data1, acknowledged);
-    flat_desk_event(desk::event(classroom, DeskNumber(desk), key, event, payload, reply))
+    flat_desk_answer(desk::event(classroom, DeskNumber(desk), key, event, payload, reply))
 }
 
 pub fn max3420e_desk_step(

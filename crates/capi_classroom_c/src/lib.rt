@@ -1,4 +1,4 @@
-// What C programs call of the classroom (include/max3420e.h): the functions of crate capi_classroom, each with the same promise, exported
+// What C programs call of the classroom (include/max3420e.h), with C's numbers: the functions of crate capi_classroom, each with the same promise, exported
 // as a static library of its own: the calls on a chip alone stay inlined in libcapi.a (docs/BENCHMARK.md).
 #![tactic(auto)]
 

@@ -1,13 +1,12 @@
 -- The answers to the calls on lessons as C programs get them: the record as it is, the reply and the pin as numbers.
-use Rattle.std.specs.Prelude.{ℕ, length}
-use Rattle.refusal.specs.declared.Checked.{Checked}
+use Rattle.refusal.specs.declared.Refusal.{Refusal}
+use Rattle.std.specs.Prelude.{ℕ, length, Result}
+use Rattle.refusal.specs.Check.{Checked, tells}
 use Rattle.refusal.specs.Check.{checked_number, checked_found, unless_refused}
 use Rattle.chip.specs.Pin.{pin_number}
 use Rattle.lesson.specs.Read.{Reading, reading_checked, entries_of}
-use Rattle.lesson_writer.specs.declared.WriterReply.{WriterReply}
-use Rattle.lesson_writer.specs.Parts.{writer_tells, writer_count}
-use Rattle.replay.specs.declared.ReplayAnswer.{ReplayAnswer}
-use Rattle.replay.specs.Replay.{replay_tells, replay_count}
+use Rattle.lesson_writer.specs.Parts.{writer_count}
+use Rattle.replay.specs.Replay.{ReplayAnswer, replay_count}
 use Rattle.capi_lesson.specs.declared.FlatLessonAnswer.{FlatLessonAnswer}
 use Rattle.capi_lesson.specs.declared.FlatReplayAnswer.{FlatReplayAnswer}
 
@@ -20,16 +19,16 @@ abbrev pub flat_check : Reading → FlatLessonAnswer
 flat_check x = lesson_answer (reading_checked x) (length (entries_of x))
 
 -- that of the file's bytes
-abbrev pub flat_writer : WriterReply → FlatLessonAnswer
-flat_writer r = lesson_answer (writer_tells r) (writer_count r)
+abbrev pub flat_writer : Result ℕ Refusal → FlatLessonAnswer
+flat_writer r = lesson_answer (tells r) (writer_count r)
 
 -- that of the bytes written
 abbrev pub flat_replay : ReplayAnswer → FlatReplayAnswer
 flat_replay a =
     record {
-      chip = a.chip;
-      refusal = checked_number (replay_tells a.reply);
+      chip = a.state;
+      refusal = checked_number (tells a.reply);
       pin = pin_number a.pin;
-      found = checked_found (replay_tells a.reply);
+      found = checked_found (tells a.reply);
       count = replay_count a.reply;
     }

@@ -2,19 +2,18 @@
 // its own, as that of the classroom: the calls on a chip alone stay inlined in libcapi.a (docs/BENCHMARK.md).
 #![tactic(auto)]
 
-ghost use Rattle.std.specs.Prelude.{◌≡◌, ℕ, length};
-ghost use Rattle.refusal.specs.declared.Checked.TheVariants as checked;
+ghost use Rattle.std.specs.Prelude.{◌≡◌, length};
+ghost use Rattle.refusal.specs.Check.{tells};
 ghost use Rattle.lesson.specs.Read.{lesson_of};
 ghost use Rattle.lesson.specs.Ticks.{elapsed_ticks};
 ghost use Rattle.lesson_writer.specs.Parts.{writer_reply, writer_buffer};
-ghost use Rattle.replay.specs.Replay.{replay_tells, replay_count, replay_answer, replay_buffer};
+ghost use Rattle.replay.specs.Replay.{replay_count, replay_answer, replay_buffer};
 ghost use Rattle.capi_lesson.specs.Answer.{lesson_answer, flat_check, flat_writer, flat_replay};
 
 use chip::Chip;
 use flat::pin_number;
-use lesson_writer::WriterReply;
-use refusal::{Checked, Refusal};
-use replay::ReplayReply;
+use lesson::Lesson;
+use refusal::Refusal;
 
 // What the check and the writer hand back.
 #[repr(C)]
@@ -36,33 +35,28 @@ pub struct FlatReplayAnswer {
     pub count: usize,
 }
 
-fn refuse(refusal: Refusal) -> FlatLessonAnswer
-    ensures { (n : ℕ) → result ≡ lesson_answer (checked.Refused refusal) n }
+// A reply's numbers.
+fn reply_numbers(reply: Result<usize, Refusal>) -> FlatLessonAnswer
+    ensures { result ≡ lesson_answer (tells reply) (replay_count reply) }
 {
-    FlatLessonAnswer {
-        refusal: refusal.number(),
-        found: refusal.found(),
-        count: 0,
-    }
-}
-
-fn accept(count: usize) -> FlatLessonAnswer
-    ensures { result ≡ lesson_answer checked.Accepted count }
-{
-    FlatLessonAnswer {
-        refusal: 0,
-        found: 0,
-        count,
+    match reply {
+        Err(refusal) => FlatLessonAnswer {
+            refusal: refusal.number(),
+            found: refusal.found(),
+            count: 0,
+        },
+        Ok(count) => FlatLessonAnswer {
+            refusal: 0,
+            found: 0,
+            count,
+        },
     }
 }
 
 pub fn max3420e_check_lesson(file: &[u8]) -> FlatLessonAnswer
     ensures { result ≡ flat_check (lesson_of file.now) }
 {
-    match lesson::check(file) {
-        Checked::Refused(refusal) => refuse(refusal),
-        Checked::Accepted => accept(lesson::entry_count(file)),
-    }
+    reply_numbers(Lesson::new(file).map(|lesson| lesson.len()))
 }
 
 pub fn max3420e_write_lesson(
@@ -77,20 +71,7 @@ pub fn max3420e_write_lesson(
         × (file.new
         ≡ writer_buffer kinds.now ticks.now lengths.now bodies.now file.old) }
 {
-    match lesson_writer::write(kinds, ticks, lengths, bodies, file) {
-        WriterReply::Refused(refusal) => refuse(refusal),
-        WriterReply::Written(count) => accept(count),
-    }
-}
-
-// A reply's numbers.
-fn reply_numbers(reply: ReplayReply) -> FlatLessonAnswer
-    ensures { result ≡ lesson_answer (replay_tells reply) (replay_count reply) }
-{
-    match reply {
-        ReplayReply::Refused(refusal) => refuse(refusal),
-        ReplayReply::Played(count) => accept(count),
-    }
+    reply_numbers(lesson_writer::write(kinds, ticks, lengths, bodies, file))
 }
 
 pub fn max3420e_replay(file: &[u8], output: &mut [u8]) -> FlatReplayAnswer
@@ -98,14 +79,11 @@ pub fn max3420e_replay(file: &[u8], output: &mut [u8]) -> FlatReplayAnswer
         × (output.new ≡ replay_buffer file.now output.old) }
 {
     let answer = replay::replay(file, output);
-    let chip = answer.chip;
-    let reply = answer.reply;
-    let pin = answer.pin;
-    let n = reply_numbers(reply);
+    let n = reply_numbers(answer.reply);
     FlatReplayAnswer {
-        chip,
+        chip: answer.state,
         refusal: n.refusal,
-        pin: pin_number(pin),
+        pin: pin_number(answer.pin),
         found: n.found,
         count: n.count,
     }

@@ -2,176 +2,189 @@
 // each request with its answer.
 #![tactic(auto)]
 
-ghost use Rattle.std.specs.Prelude.{◌≤◌, length};
-ghost use Rattle.firmware.specs.Answer.{request_count};
-
 use firmware::{Endpoints, Firmware, RequestReply};
-use print::{put, put_bytes, put_refusal};
+use output::Bytes;
+use print::{Answered, say};
+use std::fmt;
 
 // GET_STATUS of the device, of the interface, and of endpoints 00, 80, 83 and 81, which does not exist.
-const STATUS: [u8; 48] = *b"\x80\x00\x00\x00\x00\x00\x02\x00\
-    \x81\x00\x00\x00\x00\x00\x02\x00\
-    \x82\x00\x00\x00\x00\x00\x02\x00\
-    \x82\x00\x00\x00\x80\x00\x02\x00\
-    \x82\x00\x00\x00\x83\x00\x02\x00\
-    \x82\x00\x00\x00\x81\x00\x02\x00";
+const STATUS: [[u8; 8]; 6] = [
+    *b"\x80\x00\x00\x00\x00\x00\x02\x00",
+    *b"\x81\x00\x00\x00\x00\x00\x02\x00",
+    *b"\x82\x00\x00\x00\x00\x00\x02\x00",
+    *b"\x82\x00\x00\x00\x80\x00\x02\x00",
+    *b"\x82\x00\x00\x00\x83\x00\x02\x00",
+    *b"\x82\x00\x00\x00\x81\x00\x02\x00",
+];
 
 // Remote wakeup on and off, each with the device's status; a feature that does not exist.
-const WAKEUP: [u8; 40] = *b"\x00\x03\x01\x00\x00\x00\x00\x00\
-    \x80\x00\x00\x00\x00\x00\x02\x00\
-    \x00\x01\x01\x00\x00\x00\x00\x00\
-    \x80\x00\x00\x00\x00\x00\x02\x00\
-    \x00\x03\x02\x00\x00\x00\x00\x00";
+const WAKEUP: [[u8; 8]; 5] = [
+    *b"\x00\x03\x01\x00\x00\x00\x00\x00",
+    *b"\x80\x00\x00\x00\x00\x00\x02\x00",
+    *b"\x00\x01\x01\x00\x00\x00\x00\x00",
+    *b"\x80\x00\x00\x00\x00\x00\x02\x00",
+    *b"\x00\x03\x02\x00\x00\x00\x00\x00",
+];
 
 // The halt of endpoint 83 on and off, each with its status; on again.
-const HALT: [u8; 40] = *b"\x02\x03\x00\x00\x83\x00\x00\x00\
-    \x82\x00\x00\x00\x83\x00\x02\x00\
-    \x02\x01\x00\x00\x83\x00\x00\x00\
-    \x82\x00\x00\x00\x83\x00\x02\x00\
-    \x02\x03\x00\x00\x83\x00\x00\x00";
+const HALT: [[u8; 8]; 5] = [
+    *b"\x02\x03\x00\x00\x83\x00\x00\x00",
+    *b"\x82\x00\x00\x00\x83\x00\x02\x00",
+    *b"\x02\x01\x00\x00\x83\x00\x00\x00",
+    *b"\x82\x00\x00\x00\x83\x00\x02\x00",
+    *b"\x02\x03\x00\x00\x83\x00\x00\x00",
+];
 
 // SET_ADDRESS with two values; GET_CONFIGURATION.
-const DEVICE: [u8; 24] = *b"\x00\x05\x17\x00\x00\x00\x00\x00\
-    \x00\x05\xFF\xFF\x00\x00\x00\x00\
-    \x80\x08\x00\x00\x00\x00\x01\x00";
+const DEVICE: [[u8; 8]; 3] = [
+    *b"\x00\x05\x17\x00\x00\x00\x00\x00",
+    *b"\x00\x05\xFF\xFF\x00\x00\x00\x00",
+    *b"\x80\x08\x00\x00\x00\x00\x01\x00",
+];
 
 // The device descriptor with wLength 64, 8 and 0; the configuration with 9 and 255; a type that does not exist.
-const DESCRIPTORS: [u8; 48] = *b"\x80\x06\x00\x01\x00\x00\x40\x00\
-    \x80\x06\x00\x01\x00\x00\x08\x00\
-    \x80\x06\x00\x01\x00\x00\x00\x00\
-    \x80\x06\x00\x02\x00\x00\x09\x00\
-    \x80\x06\x00\x02\x00\x00\xFF\x00\
-    \x80\x06\x00\x06\x00\x00\x0A\x00";
+const DESCRIPTORS: [[u8; 8]; 6] = [
+    *b"\x80\x06\x00\x01\x00\x00\x40\x00",
+    *b"\x80\x06\x00\x01\x00\x00\x08\x00",
+    *b"\x80\x06\x00\x01\x00\x00\x00\x00",
+    *b"\x80\x06\x00\x02\x00\x00\x09\x00",
+    *b"\x80\x06\x00\x02\x00\x00\xFF\x00",
+    *b"\x80\x06\x00\x06\x00\x00\x0A\x00",
+];
 
 // The strings 0 to 3, with a language; 4 and 255, which do not exist.
-const STRINGS: [u8; 48] = *b"\x80\x06\x00\x03\x00\x00\xFF\x00\
-    \x80\x06\x01\x03\x09\x04\xFF\x00\
-    \x80\x06\x02\x03\x09\x04\xFF\x00\
-    \x80\x06\x03\x03\x09\x04\xFF\x00\
-    \x80\x06\x04\x03\x09\x04\xFF\x00\
-    \x80\x06\xFF\x03\x09\x04\xFF\x00";
+const STRINGS: [[u8; 8]; 6] = [
+    *b"\x80\x06\x00\x03\x00\x00\xFF\x00",
+    *b"\x80\x06\x01\x03\x09\x04\xFF\x00",
+    *b"\x80\x06\x02\x03\x09\x04\xFF\x00",
+    *b"\x80\x06\x03\x03\x09\x04\xFF\x00",
+    *b"\x80\x06\x04\x03\x09\x04\xFF\x00",
+    *b"\x80\x06\xFF\x03\x09\x04\xFF\x00",
+];
 
 // The HID and the report descriptor; a type that does not exist; GET_INTERFACE, SET_INTERFACE.
-const INTERFACE: [u8; 40] = *b"\x81\x06\x00\x21\x00\x00\x09\x00\
-    \x81\x06\x00\x22\x00\x00\xFF\x00\
-    \x81\x06\x00\x23\x00\x00\xFF\x00\
-    \x81\x0A\x00\x00\x00\x00\x01\x00\
-    \x01\x0B\x00\x00\x00\x00\x00\x00";
+const INTERFACE: [[u8; 8]; 5] = [
+    *b"\x81\x06\x00\x21\x00\x00\x09\x00",
+    *b"\x81\x06\x00\x22\x00\x00\xFF\x00",
+    *b"\x81\x06\x00\x23\x00\x00\xFF\x00",
+    *b"\x81\x0A\x00\x00\x00\x00\x01\x00",
+    *b"\x01\x0B\x00\x00\x00\x00\x00\x00",
+];
 
 // A vendor request; SET_IDLE of the HID class; requests with a field that is not named and not 0.
-const OTHERS: [u8; 104] = *b"\xC0\x00\x00\x00\x00\x00\x02\x00\
-    \x21\x0A\x00\x00\x00\x00\x00\x00\
-    \x80\x00\x01\x00\x00\x00\x02\x00\
-    \x80\x08\x00\x00\x01\x00\x01\x00\
-    \x00\x01\x01\x00\x00\x00\x01\x00\
-    \x02\x01\x00\x00\x83\x00\x01\x00\
-    \x00\x05\x01\x00\x01\x00\x00\x00\
-    \x00\x09\x01\x00\x00\x00\x01\x00\
-    \x80\x06\x01\x01\x00\x00\x40\x00\
-    \x80\x06\x00\x01\x01\x00\x40\x00\
-    \x81\x06\x00\x21\x01\x00\x09\x00\
-    \x81\x0A\x00\x00\x01\x00\x01\x00\
-    \x01\x0B\x01\x00\x00\x00\x00\x00";
+const OTHERS: [[u8; 8]; 13] = [
+    *b"\xC0\x00\x00\x00\x00\x00\x02\x00",
+    *b"\x21\x0A\x00\x00\x00\x00\x00\x00",
+    *b"\x80\x00\x01\x00\x00\x00\x02\x00",
+    *b"\x80\x08\x00\x00\x01\x00\x01\x00",
+    *b"\x00\x01\x01\x00\x00\x00\x01\x00",
+    *b"\x02\x01\x00\x00\x83\x00\x01\x00",
+    *b"\x00\x05\x01\x00\x01\x00\x00\x00",
+    *b"\x00\x09\x01\x00\x00\x00\x01\x00",
+    *b"\x80\x06\x01\x01\x00\x00\x40\x00",
+    *b"\x80\x06\x00\x01\x01\x00\x40\x00",
+    *b"\x81\x06\x00\x21\x01\x00\x09\x00",
+    *b"\x81\x0A\x00\x00\x01\x00\x01\x00",
+    *b"\x01\x0B\x01\x00\x00\x00\x00\x00",
+];
 
 // SET_CONFIGURATION 2, 0 and 1, with the status of endpoint 83.
-const CONFIGURATION: [u8; 40] = *b"\x00\x09\x02\x00\x00\x00\x00\x00\
-    \x00\x09\x00\x00\x00\x00\x00\x00\
-    \x82\x00\x00\x00\x83\x00\x02\x00\
-    \x00\x09\x01\x00\x00\x00\x00\x00\
-    \x82\x00\x00\x00\x83\x00\x02\x00";
+const CONFIGURATION: [[u8; 8]; 5] = [
+    *b"\x00\x09\x02\x00\x00\x00\x00\x00",
+    *b"\x00\x09\x00\x00\x00\x00\x00\x00",
+    *b"\x82\x00\x00\x00\x83\x00\x02\x00",
+    *b"\x00\x09\x01\x00\x00\x00\x00\x00",
+    *b"\x82\x00\x00\x00\x83\x00\x02\x00",
+];
 
-fn put_endpoints(rt: &impl Print, endpoints: Endpoints) {
-    match endpoints {
-        Endpoints::Unchanged => put(rt, b"\n"),
-        Endpoints::ClearHalt => put(rt, b", clear halt\n"),
-        Endpoints::SetHalt => put(rt, b", set halt\n"),
-        Endpoints::Configure => put(rt, b", configure\n"),
-    }
-}
+// What a request that is not refused is replied, with the buffer that the bytes of its data are in.
+#[derive(Clone, Copy)]
+struct Replied<'a>(RequestReply, &'a [u8]);
 
-fn put_reply(rt: &impl Print, reply: RequestReply, buffer: &[u8])
-    requires { request_count reply ≤ length buffer.now }
-{
-    match reply {
-        RequestReply::Refused(refusal) => put_refusal(rt, refusal),
-        RequestReply::Stall => put(rt, b": stall"),
-        RequestReply::Ack => put(rt, b": ack"),
-        RequestReply::Data(n) => {
-            put(rt, b": data");
-            put_bytes(rt, &buffer[..n as usize]);
+impl<'a> fmt::Display for Replied<'a> {
+    fn fmt<W: fmt::Write>(&self, f: &mut fmt::Formatter<W>) -> fmt::Result {
+        match self.0 {
+            RequestReply::Stall => write!(f, ": stall"),
+            RequestReply::Ack => write!(f, ": ack"),
+            RequestReply::Data(count) => write!(
+                f,
+                ": data{}",
+                Bytes::first(count as usize, self.1)
+            ),
         }
     }
 }
 
-// Makes one call, and writes the request and the answer.
-fn ask(rt: &impl Print, setup: &[u8], firmware: Firmware, buffer: &mut [u8]) -> Firmware {
-    let response = firmware::answer(setup, firmware, buffer);
-    let reply = response.reply;
-    let endpoints = response.endpoints;
-    put(rt, b"request");
-    put_bytes(rt, setup);
-    put_reply(rt, reply, buffer);
-    put_endpoints(rt, endpoints);
-    response.firmware
-}
-
-// The same with a reply buffer of 64 bytes, which is enough.
-fn ask_with_64(rt: &impl Print, setup: &[u8], firmware: Firmware) -> Firmware {
-    let mut buffer = [0u8; 64];
-    ask(rt, setup, firmware, &mut buffer)
-}
-
-// The same with a reply buffer of 63 bytes, which is refused.
-fn ask_with_63(rt: &impl Print, setup: &[u8], firmware: Firmware) -> Firmware {
-    let mut buffer = [0u8; 63];
-    ask(rt, setup, firmware, &mut buffer)
-}
-
-// Makes calls in a row, of eight bytes each.
-fn ask_each(rt: &impl Print, requests: &[u8], firmware: Firmware) -> Firmware {
-    let mut next = firmware;
-    for i in 0..requests.len() / 8 {
-        next = ask_with_64(rt, &requests[8 * i..8 * i + 8], next);
+fn words(endpoints: Endpoints) -> &'static str {
+    match endpoints {
+        Endpoints::Unchanged => "",
+        Endpoints::ClearHalt => ", clear halt",
+        Endpoints::SetHalt => ", set halt",
+        Endpoints::Configure => ", configure",
     }
-    next
 }
 
-fn ask_under(rt: &impl Print, heading: &[u8], requests: &[u8], firmware: Firmware) -> Firmware {
-    put(rt, heading);
-    ask_each(rt, requests, firmware)
+// The firmware as the calls so far have left it, and what they are written on.
+#[derive(Drop)]
+struct Bench<'a, R> {
+    rt: &'a R,
+    firmware: Firmware,
 }
 
-fn ask_all(rt: &impl Print, firmware: Firmware) -> Firmware {
-    let mut next = firmware;
-    next = ask_under(rt, b"GET_STATUS\n", &STATUS, next);
-    next = ask_under(rt, b"Remote wakeup\n", &WAKEUP, next);
-    next = ask_under(rt, b"The halt of endpoint 83\n", &HALT, next);
-    next = ask_under(rt, b"SET_ADDRESS, GET_CONFIGURATION\n", &DEVICE, next);
-    next = ask_under(
-        rt,
-        b"GET_DESCRIPTOR: device, configuration\n",
-        &DESCRIPTORS,
-        next,
-    );
-    next = ask_under(rt, b"GET_DESCRIPTOR: strings\n", &STRINGS, next);
-    next = ask_under(rt, b"The interface\n", &INTERFACE, next);
-    next = ask_under(rt, b"Requests that are not served\n", &OTHERS, next);
-    next = ask_under(rt, b"SET_CONFIGURATION\n", &CONFIGURATION, next);
-    next
+impl<'a, R: Print> Bench<'a, R> {
+    // Makes one call, and writes the request and the answer.
+    fn ask(&mut self, setup: &[u8], buffer: &mut [u8]) {
+        let response = firmware::answer(setup, self.firmware, buffer);
+        self.firmware = response.firmware;
+        let request = Bytes(setup);
+        let replied = Answered(response.reply.map(|reply| Replied(reply, buffer)));
+        let endpoints = words(response.endpoints);
+        say(
+            self.rt,
+            format_args!("request{request}{replied}{endpoints}\n"),
+        );
+    }
+
+    fn ask_all(&mut self) {
+        let lists: [(&str, &[[u8; 8]]); 9] = [
+            ("GET_STATUS\n", &STATUS),
+            ("Remote wakeup\n", &WAKEUP),
+            ("The halt of endpoint 83\n", &HALT),
+            ("SET_ADDRESS, GET_CONFIGURATION\n", &DEVICE),
+            ("GET_DESCRIPTOR: device, configuration\n", &DESCRIPTORS),
+            ("GET_DESCRIPTOR: strings\n", &STRINGS),
+            ("The interface\n", &INTERFACE),
+            ("Requests that are not served\n", &OTHERS),
+            ("SET_CONFIGURATION\n", &CONFIGURATION),
+        ];
+        for (heading, requests) in lists {
+            say(self.rt, heading);
+            for request in requests {
+                self.ask(request, &mut [0u8; 64]);
+            }
+        }
+    }
 }
 
 fn main(rt: HostRuntime) {
-    put(&rt, b"== Not configured\n");
-    let configured = ask_all(&rt, Firmware::power_on());
-    put(&rt, b"== Configured\n");
-    ask_all(&rt, configured);
-    put(&rt, b"== Refused\n");
-    let unsound = Firmware {
+    let mut bench = Bench {
+        rt: &rt,
+        firmware: Firmware::power_on(),
+    };
+    say(&rt, "== Not configured\n");
+    bench.ask_all();
+    let configured = bench.firmware;
+    say(&rt, "== Configured\n");
+    bench.ask_all();
+    // A record that is not sound, a reply buffer of 63 bytes, requests of seven bytes and of nine.
+    say(&rt, "== Refused\n");
+    bench.firmware = Firmware {
         configuration: 2,
         ..configured
     };
-    ask_with_63(&rt, &STATUS[..7], unsound);
-    ask_with_63(&rt, &STATUS[..7], configured);
-    ask_with_64(&rt, &STATUS[..7], configured);
-    ask_with_64(&rt, &STATUS[..9], configured);
+    bench.ask(b"\x80\x00\x00\x00\x00\x00\x02", &mut [0u8; 63]);
+    bench.firmware = configured;
+    bench.ask(b"\x80\x00\x00\x00\x00\x00\x02", &mut [0u8; 63]);
+    bench.ask(b"\x80\x00\x00\x00\x00\x00\x02", &mut [0u8; 64]);
+    bench.ask(b"\x80\x00\x00\x00\x00\x00\x02\x00\x81", &mut [0u8; 64]);
 }

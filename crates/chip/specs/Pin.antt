@@ -1,5 +1,6 @@
 -- The INT pin (document 01, last lines of "The bus side"; 000 pages 38, 45, 54).
-use Rattle.std.specs.Prelude.{Bool, cond, ◌&&◌, ◌||◌, ℕ}
+use Rattle.refusal.specs.declared.Refusal.{Refusal}
+use Rattle.std.specs.Prelude.{Bool, cond, ◌&&◌, ◌||◌, ℕ, Result, Ok, Err}
 use Rattle.bits.specs.Bit.{has}
 use Rattle.refusal.specs.Number.{refusal_number}
 use Rattle.refusal.specs.declared.Refusal.TheVariants.{Unsound}
@@ -9,8 +10,6 @@ use Rattle.chip.specs.declared.Registers.{Registers}
 use Rattle.chip.specs.declared.Chip.{Chip}
 use Rattle.chip.specs.declared.Pin.{Pin}
 use Rattle.chip.specs.declared.Pin.TheVariants.{Low, High, Open}
-use Rattle.chip.specs.declared.PinReply.{PinReply}
-use Rattle.chip.specs.declared.PinReply.TheVariants.{Refused, Level}
 
 -- IE=1 and some IRQ bit has its enable bit set, among 14: six of R11 and R12, eight of R13 and R14
 abbrev pub interrupt_active : Registers → Bool
@@ -27,8 +26,8 @@ pin_of g = level_of g.pinctl (interrupt_active g)
 -- ---- the answer to a query
 
 -- refusal 1 for a record that is not sound
-unfoldable pub pin_reply : Chip → PinReply
-pin_reply c = cond (sound_chip c) (Level (pin_of c.registers)) (Refused Unsound)
+unfoldable pub pin_reply : Chip → Result Pin Refusal
+pin_reply c = cond (sound_chip c) (Ok (pin_of c.registers)) (Err Unsound)
 
 -- ---- numbers
 
@@ -39,11 +38,11 @@ pin_number High = 1
 pin_number Open = 2
 
 -- the number of refusal; 0 is none
-abbrev pub pin_refusal : PinReply → ℕ
-pin_refusal (Refused r) = refusal_number r
-pin_refusal (Level p) = 0
+abbrev pub pin_refusal : Result Pin Refusal → ℕ
+pin_refusal (Err r) = refusal_number r
+pin_refusal (Ok p) = 0
 
 -- the pin's value; 3 is none
-abbrev pub pin_value : PinReply → ℕ
-pin_value (Refused r) = 3
-pin_value (Level p) = pin_number p
+abbrev pub pin_value : Result Pin Refusal → ℕ
+pin_value (Err r) = 3
+pin_value (Ok p) = pin_number p

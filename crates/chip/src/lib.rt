@@ -9,13 +9,14 @@ ghost use Rattle.chip.specs.Pin.{interrupt_active, pin_of, pin_reply, pin_number
 
 use refusal::Refusal;
 use ring::Ring;
+use std::fmt;
 
 // The record is laid out as C programs hold it (include/max3420e.h). A flag is a number, 1 for on and 0 for off, and so is a toggle,
 // 1 for DATA1; a record with another number there is not sound.
 
 // Endpoint 0: one buffer for both directions, and the setup bytes (SUDFIFO).
 #[repr(C)]
-#[derive(Clone, Copy)]
+#[derive(Clone, Copy, PartialEq, Eq)]
 pub struct Endpoint0 {
     pub bytes: [u8; 64],
     pub setup: [u8; 8],
@@ -34,7 +35,7 @@ pub struct Endpoint0 {
 
 // Endpoint 1 OUT, double-buffered.
 #[repr(C)]
-#[derive(Clone, Copy)]
+#[derive(Clone, Copy, PartialEq, Eq)]
 pub struct Endpoint1 {
     pub ring: Ring,
     pub readpos: u8,
@@ -43,7 +44,7 @@ pub struct Endpoint1 {
 
 // Endpoint 2 IN, double-buffered.
 #[repr(C)]
-#[derive(Clone, Copy)]
+#[derive(Clone, Copy, PartialEq, Eq)]
 pub struct Endpoint2 {
     pub ring: Ring,
     // R7, EP2INBC: the count last armed.
@@ -54,7 +55,7 @@ pub struct Endpoint2 {
 
 // Endpoint 3 IN.
 #[repr(C)]
-#[derive(Clone, Copy)]
+#[derive(Clone, Copy, PartialEq, Eq)]
 pub struct Endpoint3 {
     pub bytes: [u8; 64],
     // R8, EP3INBC: the count last armed.
@@ -66,7 +67,7 @@ pub struct Endpoint3 {
 
 // R9 to R17, R19 and R20, by the maker's names. R18 is constant.
 #[repr(C)]
-#[derive(Clone, Copy)]
+#[derive(Clone, Copy, PartialEq, Eq)]
 pub struct Registers {
     pub epstalls: u8,
     pub clrtogs: u8,
@@ -83,7 +84,7 @@ pub struct Registers {
 
 // What the chip is supplied with.
 #[repr(C)]
-#[derive(Clone, Copy)]
+#[derive(Clone, Copy, PartialEq, Eq)]
 pub struct Power {
     // The VBUS comparator's level.
     pub vbus: u8,
@@ -92,7 +93,7 @@ pub struct Power {
 }
 
 #[repr(C)]
-#[derive(Clone, Copy)]
+#[derive(Clone, Copy, PartialEq, Eq)]
 pub struct Chip {
     pub ep0: Endpoint0,
     pub ep1: Endpoint1,
@@ -103,17 +104,29 @@ pub struct Chip {
 }
 
 // The resting level of the INT pin; `pin_number` gives its value.
-#[derive(Clone, Copy)]
+#[derive(Clone, Copy, Debug, PartialEq, Eq)]
 pub enum Pin {
     Low,
     High,
     Open,
 }
 
+impl fmt::Display for Pin {
+    fn fmt<W: fmt::Write>(&self, f: &mut fmt::Formatter<W>) -> fmt::Result {
+        f.write_str(match self {
+            Pin::Low => "low",
+            Pin::High => "high",
+            Pin::Open => "open",
+        })
+    }
+}
+
+// What a call hands back: the record after it, its reply or why it is refused, and the INT pin.
 #[derive(Clone, Copy)]
-pub enum PinReply {
-    Refused(Refusal),
-    Level(Pin),
+pub struct CallAnswer<S, R> {
+    pub state: S,
+    pub reply: Result<R, Refusal>,
+    pub pin: Pin,
 }
 
 // A toggle that flips.
@@ -418,14 +431,14 @@ impl Chip {
     }
 
     #[tactic(auto, unfolding(crate::specs::Pin::pin_reply))]
-    pub fn int_pin(self) -> PinReply
+    pub fn int_pin(self) -> Result<Pin, Refusal>
         ensures { (result ≡ pin_reply self) × (pin_refusal result ≡ cond (sound_chip self) 0 1)
             × (pin_value result ≡ cond (sound_chip self) (pin_number (pin_of self.registers)) 3) }
     {
         if self.is_sound() {
             let g = self.registers;
-            return PinReply::Level(g.pin());
+            return Ok(g.pin());
         }
-        PinReply::Refused(Refusal::Unsound)
+        Err(Refusal::Unsound)
     }
 }

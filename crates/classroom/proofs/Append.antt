@@ -1,15 +1,15 @@
 -- Grounds in two rows, one after the other: the second row is looked at where the first accepts.
+use Rattle.std.specs.Prelude.{Ok, Err}
 use mathlib.Core.Path.{◌≡◌, refl}
 use mathlib.Core.Bool.{Bool, true, false}
 use mathlib.Core.List.{List, [], ◌∷◌, ◌++◌}
 use Rattle.refusal.specs.declared.Refusal.{Refusal}
-use Rattle.refusal.specs.declared.Checked.{Checked}
-use Rattle.refusal.specs.declared.Checked.TheVariants.{Accepted, Refused}
+use Rattle.refusal.specs.Check.{Checked}
 use Rattle.refusal.specs.Check.{check}
 
 abbrev pub then_found : Checked → Checked → Checked
-then_found Accepted v = v
-then_found (Refused r) v = Refused r
+then_found (Ok tt) v = v
+then_found (Err r) v = Err r
 
 -- one ground more
 one_more : (t : Bool) (r : Refusal) (gs hs : List (Bool × Refusal)) → then_found (check gs) (check hs) ≡ check (gs ++ hs)

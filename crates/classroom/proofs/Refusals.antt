@@ -1,4 +1,5 @@
 -- Every ground of refusal is given exactly when it applies and none before it does: 9, 10, 11, 12, then 1, then the call's own.
+use Rattle.std.specs.Prelude.{Err}
 use mathlib.Core.Path.{◌≡◌, refl}
 use mathlib.Core.Logic.{◌↔◌}
 use mathlib.Core.Bool.{Bool, true, false, cond, ◌&&◌}
@@ -8,8 +9,7 @@ use lib.ListN.{length}
 use Rattle.bits.proofs.First.{FirstAt}
 use Rattle.refusal.specs.declared.Refusal.{Refusal}
 use Rattle.refusal.specs.declared.Refusal.TheVariants.{Unsound}
-use Rattle.refusal.specs.declared.Checked.{Checked}
-use Rattle.refusal.specs.declared.Checked.TheVariants.{Refused}
+use Rattle.refusal.specs.Check.{Checked}
 use Rattle.refusal.specs.Check.{check}
 use Rattle.refusal.proofs.Check.{in_order, refusal_at, check_exactly}
 use Rattle.chip.specs.Sound.{sound_chip}
@@ -56,7 +56,7 @@ abbrev pub board_found : Board → BoardCall → Checked
 board_found b (on_chip k) = board_checked b k
 board_found b (steps lent) = step_checked b lent
 
-found_by_law : (s t : Bool) (k : Call) → cond t (check (grounds s k ++ [])) (Refused Unsound) ≡ check (grounds (s && t) k)
+found_by_law : (s t : Bool) (k : Call) → cond t (check (grounds s k ++ [])) (Err Unsound) ≡ check (grounds (s && t) k)
 found_by_law true true (transfer bytes lent) = refl
 found_by_law true true (event e payload lent) = refl
 found_by_law false true (transfer bytes lent) = refl

@@ -1,18 +1,17 @@
 -- The classroom's five calls: when each is refused, its answer, and the classroom after it (document 02, Ask 3). A pupil's call is the
 -- board's own, on the records of his desk; no rule of the chip is named here.
-use Rattle.std.specs.Prelude.{Bool, not, ◌||◌, List, [], ◌∷◌, ℕ, eqb, length}
+use Rattle.std.specs.Prelude.{Bool, not, ◌||◌, List, [], ◌∷◌, ℕ, eqb, length, Option, Ok, Err}
 use Rattle.bits.specs.Flag.{is_on}
 use Rattle.refusal.specs.declared.Refusal.{Refusal}
 use Rattle.refusal.specs.declared.Refusal.TheVariants.{Unsound, NoDesk, DeskState, WrongKey, BadKey}
-use Rattle.refusal.specs.declared.Checked.{Checked}
-use Rattle.refusal.specs.declared.Checked.TheVariants.{Accepted, Refused}
+use Rattle.refusal.specs.Check.{Checked}
 use Rattle.refusal.specs.Check.{check}
 use Rattle.chip.specs.declared.Pin.TheVariants.{Open}
 use Rattle.model.specs.declared.Event.{Event}
 use Rattle.model.specs.Call.{Call, transfer, event, buffer_after}
-use Rattle.spi.specs.declared.TransferReply.TheVariants as transfers
-use Rattle.event_answer.specs.declared.EventReply.TheVariants as events
-use Rattle.board.specs.declared.StepReply.TheVariants as step
+use Rattle.chip.specs.declared.CallAnswer.{CallAnswer}
+use Rattle.event_answer.specs.declared.EventReply.{EventReply}
+use Rattle.firmware.specs.declared.RequestReply.{RequestReply}
 use Rattle.board_record.specs.declared.Board.{Board}
 use Rattle.board.specs.Board.{BoardCall, on_chip, steps, board_to, board_answer, board_transfer, board_event, board_step, step_checked, step_buffer}
 use Rattle.classroom_record.specs.declared.Desk.{Desk}
@@ -20,9 +19,6 @@ use Rattle.classroom_record.specs.declared.DeskNumber.{DeskNumber}
 use Rattle.classroom_record.specs.declared.Classroom.{Classroom}
 use Rattle.classroom_record.specs.Record.{is_desk, is_open, closed_desk, sound_desk, desk_at, set_desk, key_in_use}
 use Rattle.classroom.specs.declared.TeacherAnswer.{TeacherAnswer}
-use Rattle.classroom.specs.declared.DeskTransfer.{DeskTransfer}
-use Rattle.classroom.specs.declared.DeskEvent.{DeskEvent}
-use Rattle.classroom.specs.declared.DeskStep.{DeskStep}
 
 -- ---- refusals in the order of the paper, of which the first that applies is given: 9 no such desk, 10 desk closed (or, on opening,
 -- already open), 11 wrong key, 12 key 0 or in use at another open desk (opening only), then 1, of the named desk only. At a desk that is
@@ -62,8 +58,8 @@ abbrev pub set_board : Board → Desk → Desk
 set_board b d = record { board = b; opened = d.opened; key = d.key }
 
 abbrev pub unless_refused_desk : Classroom → DeskNumber → Desk → Checked → Classroom
-unless_refused_desk room n d Accepted = set_desk n d room
-unless_refused_desk room n d (Refused r) = room
+unless_refused_desk room n d (Ok tt) = set_desk n d room
+unless_refused_desk room n d (Err r) = room
 
 -- ---- the teacher's calls
 
@@ -81,6 +77,15 @@ close_answer room n =
 
 -- ---- a pupil's calls
 
+abbrev pub DeskTransfer : Type 0
+DeskTransfer = CallAnswer Classroom ℕ
+
+abbrev pub DeskEvent : Type 0
+DeskEvent = CallAnswer Classroom EventReply
+
+abbrev pub DeskStep : Type 0
+DeskStep = CallAnswer Classroom (Option RequestReply)
+
 abbrev pub board_at : Classroom → DeskNumber → Board
 board_at room n = (desk_at room n).board
 
@@ -89,52 +94,30 @@ calling_to room n k v = unless_refused_desk room n (set_board (board_to (board_a
 
 -- the lent buffer: as the board leaves it, or as it was
 abbrev pub lent_after : List ℕ → List ℕ → Checked → List ℕ
-lent_after after buffer Accepted = after
-lent_after after buffer (Refused r) = buffer
+lent_after after buffer (Ok tt) = after
+lent_after after buffer (Err r) = buffer
 
-abbrev pub transfer_by : Classroom → DeskNumber → Call → Checked → DeskTransfer
-transfer_by room n k Accepted =
-    record {
-      classroom = calling_to room n (on_chip k) Accepted;
-      reply = (board_transfer (board_at room n) k).reply;
-      pin = (board_transfer (board_at room n) k).pin;
-    }
-transfer_by room n k (Refused r) = record { classroom = room; reply = transfers.Refused r; pin = Open }
+-- what is handed back where the board answers a: its reply and pin, the records at the desk; of a refused call nothing of the desk
+abbrev pub desk_by : {A : Type 0} → Classroom → DeskNumber → BoardCall → CallAnswer Board A → Checked → CallAnswer Classroom A
+desk_by room n k a (Ok tt) = record { state = calling_to room n k (Ok tt); reply = a.reply; pin = a.pin }
+desk_by room n k a (Err r) = record { state = room; reply = Err r; pin = Open }
 
 unfoldable pub desk_transfer : Classroom → DeskNumber → ℕ → Call → DeskTransfer
-desk_transfer room n key k = transfer_by room n k (calling_checked room n key)
+desk_transfer room n key k = desk_by room n (on_chip k) (board_transfer (board_at room n) k) (calling_checked room n key)
 
 unfoldable pub transfer_lent : Classroom → DeskNumber → ℕ → List ℕ → List ℕ → List ℕ
 transfer_lent room n key bytes buffer =
     lent_after (buffer_after (board_answer (board_at room n) (transfer bytes (length buffer))) buffer) buffer (calling_checked room n key)
 
-abbrev pub event_by : Classroom → DeskNumber → Call → Checked → DeskEvent
-event_by room n k Accepted =
-    record {
-      classroom = calling_to room n (on_chip k) Accepted;
-      reply = (board_event (board_at room n) k).reply;
-      pin = (board_event (board_at room n) k).pin;
-    }
-event_by room n k (Refused r) = record { classroom = room; reply = events.Refused r; pin = Open }
-
 unfoldable pub desk_event : Classroom → DeskNumber → ℕ → Call → DeskEvent
-desk_event room n key k = event_by room n k (calling_checked room n key)
+desk_event room n key k = desk_by room n (on_chip k) (board_event (board_at room n) k) (calling_checked room n key)
 
 unfoldable pub event_lent : Classroom → DeskNumber → ℕ → Event → List ℕ → List ℕ → List ℕ
 event_lent room n key e payload buffer =
     lent_after (buffer_after (board_answer (board_at room n) (event e payload (length buffer))) buffer) buffer (calling_checked room n key)
 
-abbrev pub step_by : Classroom → DeskNumber → ℕ → Checked → DeskStep
-step_by room n lent Accepted =
-    record {
-      classroom = calling_to room n (steps lent) Accepted;
-      reply = (board_step (board_at room n) lent).reply;
-      pin = (board_step (board_at room n) lent).pin;
-    }
-step_by room n lent (Refused r) = record { classroom = room; reply = step.Refused r; pin = Open }
-
 unfoldable pub desk_step : Classroom → DeskNumber → ℕ → ℕ → DeskStep
-desk_step room n key lent = step_by room n lent (calling_checked room n key)
+desk_step room n key lent = desk_by room n (steps lent) (board_step (board_at room n) lent) (calling_checked room n key)
 
 unfoldable pub step_lent : Classroom → DeskNumber → ℕ → List ℕ → List ℕ
 step_lent room n key buffer =

@@ -6,100 +6,84 @@ ghost use Rattle.std.specs.Prelude.{◌≡◌};
 ghost use Rattle.refusal.specs.Check.{check};
 ghost use Rattle.classroom.specs.Calls.{opening_checked, closing_checked, key_grounds, calling_checked, open_answer, close_answer};
 
-use board::StepReply;
-use chip::Pin;
+use chip::CallAnswer;
 pub use classroom_record::{Classroom, Desk, DeskNumber};
 use event_answer::EventReply;
-use refusal::{Checked, Refusal};
-use spi::TransferReply;
+use firmware::RequestReply;
+use refusal::Refusal;
 
 // What the teacher's call hands back.
 #[derive(Clone, Copy)]
 pub struct TeacherAnswer {
     pub classroom: Classroom,
-    pub checked: Checked,
+    pub checked: Result<(), Refusal>,
 }
 
 // What a pupil's calls hand back. Where 9 to 11 refuse one, it tells nothing of the desk: the pin is open.
-#[derive(Clone, Copy)]
-pub struct DeskTransfer {
-    pub classroom: Classroom,
-    pub reply: TransferReply,
-    pub pin: Pin,
-}
+pub type DeskTransfer = CallAnswer<Classroom, u16>;
 
-#[derive(Clone, Copy)]
-pub struct DeskEvent {
-    pub classroom: Classroom,
-    pub reply: EventReply,
-    pub pin: Pin,
-}
+pub type DeskEvent = CallAnswer<Classroom, EventReply>;
 
-#[derive(Clone, Copy)]
-pub struct DeskStep {
-    pub classroom: Classroom,
-    pub reply: StepReply,
-    pub pin: Pin,
-}
+pub type DeskStep = CallAnswer<Classroom, Option<RequestReply>>;
 
 // ---- refusals, in the order in which they are looked at
 
 // 9, 10, 12, 1
-fn check_opening(room: Classroom, number: DeskNumber, key: u32) -> Checked
+fn check_opening(room: Classroom, number: DeskNumber, key: u32) -> Result<(), Refusal>
     ensures { result ≡ opening_checked room number key }
 {
     if !number.exists() {
-        return Checked::Refused(Refusal::NoDesk);
+        return Err(Refusal::NoDesk);
     }
     let desk = room.desk_at(number);
     if desk.opened == 1 {
-        return Checked::Refused(Refusal::DeskState);
+        return Err(Refusal::DeskState);
     }
     if (key == 0) | room.key_in_use(key) {
-        return Checked::Refused(Refusal::BadKey);
+        return Err(Refusal::BadKey);
     }
     if !desk.is_sound() {
-        return Checked::Refused(Refusal::Unsound);
+        return Err(Refusal::Unsound);
     }
-    Checked::Accepted
+    Ok(())
 }
 
 // 9, 10, 1
-fn check_closing(room: Classroom, number: DeskNumber) -> Checked
+fn check_closing(room: Classroom, number: DeskNumber) -> Result<(), Refusal>
     ensures { result ≡ closing_checked room number }
 {
     if !number.exists() {
-        return Checked::Refused(Refusal::NoDesk);
+        return Err(Refusal::NoDesk);
     }
     let desk = room.desk_at(number);
     if desk.opened != 1 {
-        return Checked::Refused(Refusal::DeskState);
+        return Err(Refusal::DeskState);
     }
     if !desk.is_sound() {
-        return Checked::Refused(Refusal::Unsound);
+        return Err(Refusal::Unsound);
     }
-    Checked::Accepted
+    Ok(())
 }
 
 // 10, 11; of numbers, so that no classroom is copied for it.
-pub fn check_key(opened: u8, own: u32, key: u32) -> Checked
+pub fn check_key(opened: u8, own: u32, key: u32) -> Result<(), Refusal>
     ensures { result ≡ check (key_grounds opened own key) }
 {
     if opened != 1 {
-        return Checked::Refused(Refusal::DeskState);
+        return Err(Refusal::DeskState);
     }
     if own != key {
-        return Checked::Refused(Refusal::WrongKey);
+        return Err(Refusal::WrongKey);
     }
-    Checked::Accepted
+    Ok(())
 }
 
 // 9, 10, 11: whether a pupil's call would reach the board.
-pub fn check_call(room: Classroom, number: DeskNumber, key: u32) -> Checked
+pub fn check_call(room: Classroom, number: DeskNumber, key: u32) -> Result<(), Refusal>
     ensures { result ≡ calling_checked room number key }
 {
     if !number.exists() {
-        return Checked::Refused(Refusal::NoDesk);
+        return Err(Refusal::NoDesk);
     }
     let desk = room.desk_at(number);
     check_key(desk.opened, desk.key, key)
@@ -114,18 +98,18 @@ pub fn open(room: Classroom, number: DeskNumber, key: u32) -> TeacherAnswer
 {
     let checked = check_opening(room, number, key);
     match checked {
-        Checked::Accepted => {
+        Ok(()) => {
             let mut desk = room.desk_at(number);
             desk.opened = 1;
             desk.key = key;
             TeacherAnswer {
                 classroom: room.with_desk(number, desk),
-                checked: Checked::Accepted,
+                checked: Ok(()),
             }
         }
-        Checked::Refused(refusal) => TeacherAnswer {
+        Err(refusal) => TeacherAnswer {
             classroom: room,
-            checked: Checked::Refused(refusal),
+            checked: Err(refusal),
         },
     }
 }
@@ -137,13 +121,13 @@ pub fn close(room: Classroom, number: DeskNumber) -> TeacherAnswer
 {
     let checked = check_closing(room, number);
     match checked {
-        Checked::Accepted => TeacherAnswer {
+        Ok(()) => TeacherAnswer {
             classroom: room.with_desk(number, Desk::closed()),
-            checked: Checked::Accepted,
+            checked: Ok(()),
         },
-        Checked::Refused(refusal) => TeacherAnswer {
+        Err(refusal) => TeacherAnswer {
             classroom: room,
-            checked: Checked::Refused(refusal),
+            checked: Err(refusal),
         },
     }
 }

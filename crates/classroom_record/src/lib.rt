@@ -2,7 +2,7 @@
 #![tactic(auto)]
 
 ghost use Rattle.std.specs.Prelude.{◌≡◌, true};
-ghost use Rattle.classroom_record.specs.Record.{closed_desk, all_closed, is_desk, is_open, desk_at, set_desk, key_in_use};
+ghost use Rattle.classroom_record.specs.Record.{closed_desk, all_closed, is_desk, is_open, desk_at, set_desk, key_among, key_in_use};
 ghost use Rattle.classroom_record.specs.Record.{same_board, sound_desk};
 
 use board_record::Board;
@@ -35,6 +35,7 @@ impl DeskNumber {
     }
 }
 
+// Part by part, as in crate same.
 fn same_board(a: Board, b: Board) -> bool
     ensures { result ≡ same_board a b }
 {
@@ -68,6 +69,18 @@ impl Desk {
         let fresh = Board::power_on();
         same_board(board, fresh) & (self.opened == 0) & (self.key == 0)
     }
+}
+
+// Whether some open desk of these has that key.
+fn key_among(desks: &[Desk], key: u32) -> bool
+    ensures { result ≡ key_among desks.now key }
+{
+    for desk in desks {
+        if (desk.opened == 1) & (desk.key == key) {
+            return true;
+        }
+    }
+    false
 }
 
 impl Classroom {
@@ -104,13 +117,6 @@ impl Classroom {
     pub fn key_in_use(self, key: u32) -> bool
         ensures { result ≡ key_in_use self key }
     {
-        let mut i: usize = 0;
-        while i < 16 {
-            if (self.desks[i].opened == 1) & (self.desks[i].key == key) {
-                return true;
-            }
-            i += 1;
-        }
-        false
+        key_among(&self.desks, key)
     }
 }

@@ -1,4 +1,5 @@
 -- The keys of open desks differ, and none is 0.
+use Rattle.std.specs.Prelude.{Ok, Err}
 use mathlib.Core.Path.{◌≡◌, refl, sym, ap, ◌∙◌, subst}
 use mathlib.Core.Bool.{Bool, true, false, ◌&&◌}
 use mathlib.Core.List.{List, [], ◌∷◌}
@@ -8,8 +9,7 @@ use lib.Dec.{eqb}
 use lib.ListN.{length, get_or}
 use borrow.Author.Tests.{eqb-true, eq-eqb, ltb-true}
 use Rattle.bits.proofs.Cases.{true_is_false, or_false}
-use Rattle.refusal.specs.declared.Checked.{Checked}
-use Rattle.refusal.specs.declared.Checked.TheVariants.{Accepted, Refused}
+use Rattle.refusal.specs.Check.{Checked}
 use Rattle.refusal.proofs.Check.{accepted_none}
 use Rattle.classroom_record.specs.declared.Desk.{Desk}
 use Rattle.classroom_record.specs.declared.DeskNumber.{DeskNumber}
@@ -38,12 +38,12 @@ data Came (room : Classroom) (o : Order) (n : DeskNumber) (key : ℕ) : Type 0 w
 came_by : (room : Classroom) (o : Order) (n : DeskNumber) → names n o ≡ true → (v : Checked)
     → found_by (key_in_use room (key_of o)) (desk_at room n) o ≡ v → is_open (desk_by (desk_at room n) o v) ≡ true
     → Came room o n (desk_by (desk_at room n) o v).key
-came_by room o n e (Refused r) f w = had w refl
-came_by room (opens m key) n e Accepted f w =
+came_by room o n e (Err r) f w = had w refl
+came_by room (opens m key) n e (Ok tt) f w =
     let bad = or_false (eqb key 0) (key_in_use room key) (accepted_none (opening_grounds m (key_in_use room key) (desk_at room n) key) f 2) in
     given e bad.0 bad.1
-came_by room (closes m) n e Accepted f w = true_is_false (sym w)
-came_by room (calls m key k) n e Accepted f w = had w refl
+came_by room (closes m) n e (Ok tt) f w = true_is_false (sym w)
+came_by room (calls m key k) n e (Ok tt) f w = had w refl
 
 module _ (room : Classroom) (o : Order) (n : DeskNumber) (here : is_desk n ≡ true) (sixteen : Sixteen room) where
   abbrev After : Desk

@@ -1,4 +1,5 @@
 -- What a desk holds: a closed desk's records, or those that the calls since its last accepted opening make of the records of power-on.
+use Rattle.std.specs.Prelude.{Ok, Err}
 use mathlib.Core.Path.{◌≡◌, refl, sym, subst}
 use mathlib.Core.Bool.{Bool, true, false, cond}
 use mathlib.Core.List.{List, [], ◌∷◌, ◌++◌, map}
@@ -6,8 +7,7 @@ use Prim.Native.Nat.{ℕ}
 use lib.ListN.{get_or-replicate}
 use borrow.Author.Tests.{ltb-true}
 use Rattle.bits.proofs.Cases.{true_is_false}
-use Rattle.refusal.specs.declared.Checked.{Checked}
-use Rattle.refusal.specs.declared.Checked.TheVariants.{Accepted, Refused}
+use Rattle.refusal.specs.Check.{Checked}
 use Rattle.refusal.proofs.Check.{accepted_none}
 use Rattle.board_record.specs.declared.Board.{Board}
 use Rattle.board_record.specs.Record.{power_on_board}
@@ -38,14 +38,14 @@ pub data Lived : List PupilCall → Desk → Type 0 where
 lived_step : {ks : List PupilCall} {d : Desk} → Lived ks d → (o : Order) (used : Bool) (v : Checked) → found_by used d o ≡ v
     → Lived (note_order ks o (response_by d o v)) (desk_by d o v)
 unfolding board_run_to
-lived_step l o used (Refused r) e = l
-lived_step shut (opens n key) used Accepted e = seated key []
-lived_step shut (closes n) used Accepted e = shut
-lived_step shut (calls n key k) used Accepted e = true_is_false (accepted_none (calling_grounds n closed_desk key) e 1)
-lived_step (seated key ks) (opens n new) used Accepted e =
+lived_step l o used (Err r) e = l
+lived_step shut (opens n key) used (Ok tt) e = seated key []
+lived_step shut (closes n) used (Ok tt) e = shut
+lived_step shut (calls n key k) used (Ok tt) e = true_is_false (accepted_none (calling_grounds n closed_desk key) e 1)
+lived_step (seated key ks) (opens n new) used (Ok tt) e =
     true_is_false (accepted_none (opening_grounds n used (record { board = board_after power_on_board ks; opened = 1; key = key }) new) e 1)
-lived_step (seated key ks) (closes n) used Accepted e = shut
-lived_step (seated key ks) (calls n given k) used Accepted e =
+lived_step (seated key ks) (closes n) used (Ok tt) e = shut
+lived_step (seated key ks) (calls n given k) used (Ok tt) e =
     subst (λ (b : Board). Lived (ks ++ (k ∷ [])) (record { board = b; opened = 1; key = key })) (one_more power_on_board ks k)
     (seated key (ks ++ (k ∷ [])))
 

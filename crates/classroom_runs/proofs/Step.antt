@@ -1,4 +1,5 @@
 -- What one order does: to a desk that it does not name, and to the desk that it names.
+use Rattle.std.specs.Prelude.{Ok, Err}
 use mathlib.Core.Path.{◌≡◌, refl, sym, ◌∙◌, subst}
 use mathlib.Core.Bool.{Bool, true, false}
 use Prim.Native.Nat.{◌<◌}
@@ -7,8 +8,7 @@ use lib.Dec.{eqb}
 use lib.ListN.{length, length-set}
 use lib.Seq.{get_or-set_same, get_or-set_other}
 use borrow.Author.Tests.{eqb-true, eqb-false, ltb-true}
-use Rattle.refusal.specs.declared.Checked.{Checked}
-use Rattle.refusal.specs.declared.Checked.TheVariants.{Accepted, Refused}
+use Rattle.refusal.specs.Check.{Checked}
 use Rattle.refusal.specs.Check.{check}
 use Rattle.classroom_record.specs.declared.Desk.{Desk}
 use Rattle.classroom_record.specs.declared.DeskNumber.{DeskNumber}
@@ -23,8 +23,8 @@ abbrev pub Sixteen : Classroom → Type 0
 Sixteen room = length room.desks ≡ 16
 
 keeps_length : (room : Classroom) (n : DeskNumber) (d : Desk) (v : Checked) → length (unless_refused_desk room n d v).desks ≡ length room.desks
-keeps_length room n d Accepted = length-set room.desks n.0 d
-keeps_length room n d (Refused r) = refl
+keeps_length room n d (Ok tt) = length-set room.desks n.0 d
+keeps_length room n d (Err r) = refl
 
 pub stays_sixteen : (room : Classroom) (o : Order) → Sixteen room → Sixteen (order_to room o)
 stays_sixteen room o h = keeps_length room (desk_of o) (desk_to (desk_at room (desk_of o)) o) (order_checked room o) ∙ h
@@ -33,8 +33,8 @@ stays_sixteen room o h = keeps_length room (desk_of o) (desk_to (desk_at room (d
 
 other_by : (room : Classroom) (m n : DeskNumber) (d : Desk) → eqb n.0 m.0 ≡ false → (v : Checked)
     → desk_at (unless_refused_desk room m d v) n ≡ desk_at room n
-other_by room m n d e Accepted = get_or-set_other room.desks m.0 n.0 d closed_desk (eqb-false n.0 m.0 e)
-other_by room m n d e (Refused r) = refl
+other_by room m n d e (Ok tt) = get_or-set_other room.desks m.0 n.0 d closed_desk (eqb-false n.0 m.0 e)
+other_by room m n d e (Err r) = refl
 
 pub step_other : (room : Classroom) (o : Order) (n : DeskNumber) → names n o ≡ false → desk_at (order_to room o) n ≡ desk_at room n
 step_other room o n e = other_by room (desk_of o) n (desk_to (desk_at room (desk_of o)) o) e (order_checked room o)
@@ -46,13 +46,13 @@ abbrev pub found_by : Bool → Desk → Order → Checked
 found_by used d o = check (order_grounds used d o)
 
 abbrev pub desk_by : Desk → Order → Checked → Desk
-desk_by d o Accepted = desk_to d o
-desk_by d o (Refused r) = d
+desk_by d o (Ok tt) = desk_to d o
+desk_by d o (Err r) = d
 
 own_by : (room : Classroom) (n : DeskNumber) (o : Order) → n.0 < length room.desks → (v : Checked)
     → desk_at (unless_refused_desk room n (desk_to (desk_at room n) o) v) n ≡ desk_by (desk_at room n) o v
-own_by room n o h Accepted = get_or-set_same room.desks n.0 (desk_to (desk_at room n) o) closed_desk h
-own_by room n o h (Refused r) = refl
+own_by room n o h (Ok tt) = get_or-set_same room.desks n.0 (desk_to (desk_at room n) o) closed_desk h
+own_by room n o h (Err r) = refl
 
 pub record Own (room : Classroom) (o : Order) (n : DeskNumber) : Type 0 where
   pub response : response_of room o ≡ response_by (desk_at room n) o (found_by (key_in_use room (key_of o)) (desk_at room n) o)
@@ -79,7 +79,7 @@ open_found used d (closes n) w = refl
 open_found used d (calls n key k) w = refl
 
 pub stays_open : (d : Desk) (o : Order) → is_open d ≡ true → is_closing o ≡ false → (v : Checked) → is_open (desk_by d o v) ≡ true
-stays_open d o w u (Refused r) = w
-stays_open d (opens n key) w u Accepted = refl
-stays_open d (closes n) w u Accepted = sym u
-stays_open d (calls n key k) w u Accepted = w
+stays_open d o w u (Err r) = w
+stays_open d (opens n key) w u (Ok tt) = refl
+stays_open d (closes n) w u (Ok tt) = sym u
+stays_open d (calls n key k) w u (Ok tt) = w

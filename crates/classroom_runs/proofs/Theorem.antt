@@ -1,5 +1,6 @@
 -- For every list of orders from the start, refused ones included: desks do not interfere; demand 3 at every desk, and what a call there
 -- is told, from its last accepted opening as from a power-on; every classroom reached is sound.
+use Rattle.std.specs.Prelude.{Ok, Err}
 use mathlib.Core.Path.{◌≡◌, refl, sym, ap, ◌∙◌, subst}
 use mathlib.Core.Bool.{Bool, true, false, not, ◌||◌}
 use mathlib.Core.List.{List, [], ◌∷◌, map}
@@ -10,7 +11,6 @@ use lib.ListN.{length, get_or}
 use borrow.Author.Tests.{not-false, lt-ltb, eq-eqb}
 use Rattle.bits.proofs.Cases.{and_true, clause_at, true_is_false}
 use Rattle.refusal.specs.declared.Refusal.TheVariants.{Unsound, NoDesk, DeskState, WrongKey, BadKey}
-use Rattle.refusal.specs.declared.Checked.TheVariants.{Accepted, Refused}
 use Rattle.refusal.specs.Check.{check, checked_number}
 use Rattle.refusal.proofs.Check.{accepted_none}
 use Rattle.chip.specs.Record.{power_on_chip}
@@ -49,7 +49,7 @@ closed_fresh d closed sound =
     let firmware = same_firmware_law d.board.firmware power_on_firmware both.1 in
     λ i. record { chip = chip i; firmware = firmware i }
 
-opened_fresh : (room : Classroom) (n : DeskNumber) (key : ℕ) → opening_checked room n key ≡ Accepted → (desk_at room n).board ≡ power_on_board
+opened_fresh : (room : Classroom) (n : DeskNumber) (key : ℕ) → opening_checked room n key ≡ (Ok tt) → (desk_at room n).board ≡ power_on_board
 opened_fresh room n key e =
     let d = desk_at room n in
     let none = accepted_none (opening_grounds n (key_in_use room key) d key) e in
@@ -59,7 +59,7 @@ opened_fresh room n key e =
 abbrev pub new_desk : ℕ → Desk
 new_desk key = opened_desk key closed_desk
 
-opening_desk : (room : Classroom) (n : DeskNumber) (key : ℕ) → Sixteen room → opening_checked room n key ≡ Accepted
+opening_desk : (room : Classroom) (n : DeskNumber) (key : ℕ) → Sixteen room → opening_checked room n key ≡ (Ok tt)
     → desk_at (order_to room (opens n key)) n ≡ new_desk key
 opening_desk room n key sixteen e =
     let own = (step_own room (opens n key) n (eq-eqb n.0 n.0 refl) sixteen (opening_here room n key e)).desk in
@@ -72,7 +72,7 @@ abbrev pub opened_after : List Order → DeskNumber → ℕ → Classroom
 opened_after before n key = order_to (class_to all_closed before) (opens n key)
 
 -- from an accepted opening until the next closing, a desk answers as if it were alone
-pub from_opening : (before os : List Order) (n : DeskNumber) (key : ℕ) → opening_checked (class_to all_closed before) n key ≡ Accepted
+pub from_opening : (before os : List Order) (n : DeskNumber) (key : ℕ) → opening_checked (class_to all_closed before) n key ≡ (Ok tt)
     → unclosed (sent_to n os) ≡ true → heard_at n (class_history (opened_after before n key) os) ≡ alone_history (new_desk key) (sent_to n os)
 from_opening before os n key e u =
     let room = class_to all_closed before in
@@ -83,7 +83,7 @@ from_opening before os n key e u =
 
 -- so two lists of orders that send it the same get the same responses there, whatever other desks are sent, before and after
 pub non_interference : (before₁ before₂ os₁ os₂ : List Order) (n : DeskNumber) (key : ℕ)
-    → opening_checked (class_to all_closed before₁) n key ≡ Accepted → opening_checked (class_to all_closed before₂) n key ≡ Accepted
+    → opening_checked (class_to all_closed before₁) n key ≡ (Ok tt) → opening_checked (class_to all_closed before₂) n key ≡ (Ok tt)
     → sent_to n os₁ ≡ sent_to n os₂ → unclosed (sent_to n os₁) ≡ true
     → heard_at n (class_history (opened_after before₁ n key) os₁) ≡ heard_at n (class_history (opened_after before₂ n key) os₂)
 non_interference before₁ before₂ os₁ os₂ n key e₁ e₂ same u =
@@ -140,15 +140,15 @@ desk_sound : (os : List Order) (n : DeskNumber) → is_desk n ≡ true → sound
 desk_sound os n here = lived_sound (lived os n here)
 
 pub closing_accepted : (os : List Order) (n : DeskNumber) → is_desk n ≡ true → is_open (desk_at (class_to all_closed os) n) ≡ true
-    → closing_checked (class_to all_closed os) n ≡ Accepted
+    → closing_checked (class_to all_closed os) n ≡ (Ok tt)
 closing_accepted os n here w = rw (here, desk_sound os n here, w)
 
 pub opening_accepted : (os : List Order) (n : DeskNumber) (key : ℕ) → is_desk n ≡ true → is_open (desk_at (class_to all_closed os) n) ≡ false
-    → eqb key 0 ≡ false → key_in_use (class_to all_closed os) key ≡ false → opening_checked (class_to all_closed os) n key ≡ Accepted
+    → eqb key 0 ≡ false → key_in_use (class_to all_closed os) key ≡ false → opening_checked (class_to all_closed os) n key ≡ (Ok tt)
 opening_accepted os n key here w some free = rw (here, desk_sound os n here, w, some, free)
 
 -- 1 is the last ground of the teacher's orders, and a pupil's have it not
-never_last : (a b c d : Bool) → (a ≡ false → d ≡ false) → check ((a, NoDesk) ∷ (b, DeskState) ∷ (c, BadKey) ∷ (d, Unsound) ∷ []) ≡ Refused Unsound
+never_last : (a b c d : Bool) → (a ≡ false → d ≡ false) → check ((a, NoDesk) ∷ (b, DeskState) ∷ (c, BadKey) ∷ (d, Unsound) ∷ []) ≡ Err Unsound
     → ⊥
 never_last true b c d f e = let z : ◌≡◌ {A = ℕ} 9 1 = ap checked_number e in omega (arith, z)
 never_last false true c d f e = let z : ◌≡◌ {A = ℕ} 10 1 = ap checked_number e in omega (arith, z)
@@ -156,7 +156,7 @@ never_last false false true d f e = let z : ◌≡◌ {A = ℕ} 12 1 = ap checke
 never_last false false false true f e = true_is_false (f refl)
 never_last false false false false f e = let z : ◌≡◌ {A = ℕ} 0 1 = ap checked_number e in omega (arith, z)
 
-never_any : (a b c : Bool) → check ((a, NoDesk) ∷ (b, DeskState) ∷ (c, WrongKey) ∷ []) ≡ Refused Unsound → ⊥
+never_any : (a b c : Bool) → check ((a, NoDesk) ∷ (b, DeskState) ∷ (c, WrongKey) ∷ []) ≡ Err Unsound → ⊥
 never_any true b c e = let z : ◌≡◌ {A = ℕ} 9 1 = ap checked_number e in omega (arith, z)
 never_any false true c e = let z : ◌≡◌ {A = ℕ} 10 1 = ap checked_number e in omega (arith, z)
 never_any false false true e = let z : ◌≡◌ {A = ℕ} 11 1 = ap checked_number e in omega (arith, z)
@@ -166,7 +166,7 @@ never_any false false false e = let z : ◌≡◌ {A = ℕ} 0 1 = ap checked_num
 sound_here : (os : List Order) (n : DeskNumber) → not (is_desk n) ≡ false → not (sound_desk (desk_at (class_to all_closed os) n)) ≡ false
 sound_here os n here = ap not (desk_sound os n (not-false (is_desk n) here))
 
-pub never_unsound : (os : List Order) (o : Order) → order_checked (class_to all_closed os) o ≡ Refused Unsound → ⊥
+pub never_unsound : (os : List Order) (o : Order) → order_checked (class_to all_closed os) o ≡ Err Unsound → ⊥
 never_unsound os (opens n key) e =
     let d = desk_at (class_to all_closed os) n in
     never_last (not (is_desk n)) (is_open d) (eqb key 0 || key_in_use (class_to all_closed os) key) (not (sound_desk d)) (sound_here os n) e

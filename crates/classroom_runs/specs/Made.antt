@@ -1,12 +1,9 @@
 -- What the classroom's calls hand back, as the response that the theorems speak of.
-use Rattle.std.specs.Prelude.{◌≡◌, ℕ, length}
+use Rattle.std.specs.Prelude.{◌≡◌, ℕ, length, Ok, Err}
 use Rattle.refusal.specs.declared.Refusal.{Refusal}
-use Rattle.refusal.specs.declared.Checked.{Checked}
-use Rattle.refusal.specs.declared.Checked.TheVariants.{Accepted, Refused}
+use Rattle.refusal.specs.Check.{Checked}
 use Rattle.chip.specs.declared.Pin.TheVariants.{Open}
-use Rattle.spi.specs.declared.TransferReply.TheVariants as transfer
 use Rattle.event_answer.specs.declared.EventReply.TheVariants as event
-use Rattle.board.specs.declared.StepReply.TheVariants as step
 use Rattle.model.specs.Call as model
 use Rattle.classroom_record.specs.declared.DeskNumber.{DeskNumber}
 use Rattle.classroom_record.specs.declared.Classroom.{Classroom}
@@ -18,9 +15,9 @@ use Rattle.classroom_runs.specs.Orders.{calls, Response, turned_away, settled, t
 unfoldable pub made_classroom : Classroom → Order → Classroom
 made_classroom room (opens n key) = (open_answer room n key).classroom
 made_classroom room (closes n) = (close_answer room n).classroom
-made_classroom room (calls n key (transfers bytes buffer)) = (desk_transfer room n key (model.transfer bytes (length buffer))).classroom
-made_classroom room (calls n key (happens e payload buffer)) = (desk_event room n key (model.event e payload (length buffer))).classroom
-made_classroom room (calls n key (steps buffer)) = (desk_step room n key (length buffer)).classroom
+made_classroom room (calls n key (transfers bytes buffer)) = (desk_transfer room n key (model.transfer bytes (length buffer))).state
+made_classroom room (calls n key (happens e payload buffer)) = (desk_event room n key (model.event e payload (length buffer))).state
+made_classroom room (calls n key (steps buffer)) = (desk_step room n key (length buffer)).state
 
 -- the rest of what a pupil's call hands back: reply, pin, and the lent bytes
 unfoldable pub made_told : Classroom → DeskNumber → ℕ → PupilCall → Told
@@ -36,9 +33,9 @@ made_told room n key (steps buffer) =
 
 -- a call that is turned away tells its number, an open pin, and the lent bytes as they were
 abbrev pub away_told : PupilCall → Refusal → Told
-away_told (transfers bytes buffer) r = record { reply = of_transfer (transfer.Refused r); pin = Open; buffer = buffer }
-away_told (happens e payload buffer) r = record { reply = of_event (event.Refused r); pin = Open; buffer = buffer }
-away_told (steps buffer) r = record { reply = of_step (step.Refused r); pin = Open; buffer = buffer }
+away_told (transfers bytes buffer) r = record { reply = of_transfer (Err r); pin = Open; buffer = buffer }
+away_told (happens e payload buffer) r = record { reply = of_event (Err r); pin = Open; buffer = buffer }
+away_told (steps buffer) r = record { reply = of_step (Err r); pin = Open; buffer = buffer }
 
 -- what a pupil's call hands back is its response
 abbrev pub HandsBack : PupilCall → Told → Response → Type 0
@@ -48,5 +45,5 @@ HandsBack k t (told u) = t ≡ u
 
 -- and what the teacher's call answers
 abbrev pub teacher_response : Checked → Response
-teacher_response Accepted = settled
-teacher_response (Refused r) = turned_away r
+teacher_response (Ok tt) = settled
+teacher_response (Err r) = turned_away r

@@ -1,16 +1,14 @@
 -- Orders to the classroom, each given the classroom that the one before returned; what one desk is sent and answers (document 02, Ask 3).
-use Rattle.std.specs.Prelude.{Bool, true, false, not, cond, ◌&&◌, List, [], ◌∷◌, ◌++◌, ℕ, eqb, length}
+use Rattle.std.specs.Prelude.{Bool, true, false, not, cond, ◌&&◌, List, [], ◌∷◌, ◌++◌, ℕ, eqb, length, Option, Result, Ok, Err}
 use Rattle.refusal.specs.declared.Refusal.{Refusal}
-use Rattle.refusal.specs.declared.Checked.{Checked}
-use Rattle.refusal.specs.declared.Checked.TheVariants.{Accepted, Refused}
+use Rattle.refusal.specs.Check.{Checked}
 use Rattle.refusal.specs.Check.{check}
 use Rattle.chip.specs.declared.Pin.{Pin}
 use Rattle.model.specs.declared.Event.{Event}
 use Rattle.model.specs.Call.{transfer, event, buffer_after}
-use Rattle.spi.specs.declared.TransferReply.{TransferReply}
 use Rattle.event_answer.specs.declared.EventReply.{EventReply}
 use Rattle.board_record.specs.declared.Board.{Board}
-use Rattle.board.specs.declared.StepReply.{StepReply}
+use Rattle.firmware.specs.declared.RequestReply.{RequestReply}
 use Rattle.board.specs.Board.{BoardCall, on_chip, board_to, board_answer, board_transfer, board_event, board_step, step_checked, step_buffer}
 use Rattle.board.specs.Board as board
 use Rattle.classroom_record.specs.declared.Desk.{Desk}
@@ -27,9 +25,9 @@ pub data PupilCall : Type 0 where
   steps : (buffer : List ℕ) → PupilCall
 
 pub data PupilReply : Type 0 where
-  of_transfer : TransferReply → PupilReply
-  of_event : EventReply → PupilReply
-  of_step : StepReply → PupilReply
+  of_transfer : Result ℕ Refusal → PupilReply
+  of_event : Result EventReply Refusal → PupilReply
+  of_step : Result (Option RequestReply) Refusal → PupilReply
 
 -- all but the records: the reply, the pin, and the lent buffer after the call
 pub record Told : Type 0 where
@@ -99,8 +97,8 @@ accepted_by d (calls n key k) = told (told_by d.board k)
 
 -- by what is found of the order
 abbrev pub response_by : Desk → Order → Checked → Response
-response_by d o Accepted = accepted_by d o
-response_by d o (Refused r) = turned_away r
+response_by d o (Ok tt) = accepted_by d o
+response_by d o (Err r) = turned_away r
 
 abbrev pub response_of : Classroom → Order → Response
 response_of room o = response_by (desk_at room (desk_of o)) o (order_checked room o)

@@ -3,144 +3,118 @@
 
 ghost use Rattle.std.specs.Prelude.{◌≤◌, length};
 
+use answers::{Answer, Reply};
 use board::Board;
+use chip::{CallAnswer, Chip};
+use event_answer::EventReply;
+use firmware::RequestReply;
+use messages::{HELP, Reason};
 use model::Event;
-use output::Output;
-use script::{Command, Fault};
+use script::Command;
+use show::Record;
+use std::fmt;
+use std::fmt::Write;
 
 // The bytes lent for replies at first. No reply is longer, so that a greater room answers as this one does.
 pub const ROOM: usize = 4200;
 
-#[derive(Clone, Copy)]
-pub struct Console {
-    pub board: Board,
-    pub room: usize,
-    // The line's number.
-    pub line: u64,
-    pub output: Output,
+// What the calls of a line are made on: the console's board, or that of a desk.
+pub trait Caller {
+    fn transfer(&mut self, bytes: &[u8], reply: &mut [u8]) -> CallAnswer<(), u16>;
+
+    fn event(
+        &mut self,
+        event: Event,
+        payload: &[u8],
+        reply: &mut [u8],
+    ) -> CallAnswer<(), EventReply>;
+
+    fn step(&mut self, reply: &mut [u8]) -> CallAnswer<(), Option<RequestReply>>;
+
+    // The record that is shown.
+    fn chip(&self) -> Chip;
 }
 
-impl Console {
-    pub fn power_on() -> Self {
-        Console {
-            board: Board::power_on(),
-            room: ROOM,
-            line: 0,
-            output: Output::begin(),
-        }
+// Puts a record in the place of the one that was called, and keeps the rest of the answer.
+pub fn keep<S: Copy, R: Copy>(state: &mut S, answer: CallAnswer<S, R>) -> CallAnswer<(), R> {
+    *state = answer.state;
+    CallAnswer {
+        state: (),
+        reply: answer.reply,
+        pin: answer.pin,
     }
 }
 
-// The console after a call.
-fn after(console: Console, board: Board, output: Output) -> Console {
-    let mut next = console;
-    next.board = board;
-    next.output = output;
-    next
+impl Caller for Board {
+    fn transfer(&mut self, bytes: &[u8], reply: &mut [u8]) -> CallAnswer<(), u16> {
+        let answer = board::transfer(*self, bytes, reply);
+        keep(self, answer)
+    }
+
+    fn event(
+        &mut self,
+        event: Event,
+        payload: &[u8],
+        reply: &mut [u8],
+    ) -> CallAnswer<(), EventReply> {
+        let answer = board::event(*self, event, payload, reply);
+        keep(self, answer)
+    }
+
+    fn step(&mut self, reply: &mut [u8]) -> CallAnswer<(), Option<RequestReply>> {
+        let answer = board::step(*self, reply);
+        keep(self, answer)
+    }
+
+    fn chip(&self) -> Chip {
+        self.chip
+    }
 }
 
-fn transfer(
-    rt: &impl Print,
-    console: Console,
-    bytes: &[u8],
-    reply: &mut [u8],
-    page: &mut [u8],
-) -> Console {
-    let answer = board::transfer(console.board, bytes, reply);
-    let said = answer.reply;
-    let pin = answer.pin;
-    let output = answers::answer_transfer(rt, console.line, said, pin, reply, page, console.output);
-    after(console, answer.board, output)
-}
-
-fn event(
-    rt: &impl Print,
-    console: Console,
-    event: Event,
-    bytes: &[u8],
-    reply: &mut [u8],
-    page: &mut [u8],
-) -> Console {
-    let answer = board::event(console.board, event, bytes, reply);
-    let said = answer.reply;
-    let pin = answer.pin;
-    let output = answers::answer_event(rt, console.line, said, pin, reply, page, console.output);
-    after(console, answer.board, output)
-}
-
-fn step(rt: &impl Print, console: Console, reply: &mut [u8], page: &mut [u8]) -> Console {
-    let answer = board::step(console.board, reply);
-    let said = answer.reply;
-    let pin = answer.pin;
-    let output = answers::answer_step(rt, console.line, said, pin, reply, page, console.output);
-    after(console, answer.board, output)
-}
-
-// Why a line cannot be read.
-pub fn answer_fault(
-    rt: &impl Print,
+fn write_answer<R: Reply + Drop>(
     number: u64,
-    fault: Fault,
-    line: &[u8],
-    page: &mut [u8],
-    output: Output,
-) -> Output
-    ensures { result.filled ≤ length page.old }
-{
-    let begun = answers::begin(rt, number, page, output);
-    let told = messages::put_fault(rt, fault, line, page, begun);
-    output::put(rt, b"\n", page, told)
+    call: CallAnswer<(), R>,
+    bytes: &[u8],
+    out: &mut impl Write,
+) -> fmt::Result {
+    let answer = Answer { call: &call, bytes };
+    writeln!(out, "{number} {answer}")
 }
 
-// What a command puts that is no call.
-pub fn tell(
-    rt: &impl Print,
-    console: Console,
+// Does what a command asks for, with so many bytes lent for the reply. The line's number stands before the answer of a call.
+fn perform(
+    caller: &mut impl Caller,
+    room: &mut usize,
+    number: u64,
     command: Command,
-    line: &[u8],
-    page: &mut [u8],
-) -> Console {
-    let output = console.output;
-    let mut next = console;
+    bytes: &[u8],
+    out: &mut impl Write,
+) -> fmt::Result {
+    let mut lent_bytes = [0u8; 4200];
+    let reply = &mut lent_bytes[..lent(*room)];
     match command {
-        Command::Room(room) => {
-            next.room = room;
-            next
+        Command::Transfer(_) => {
+            let answer = caller.transfer(bytes, reply);
+            write_answer(number, answer, reply, out)
+        }
+        Command::Event(event, _) => {
+            let answer = caller.event(event, bytes, reply);
+            write_answer(number, answer, reply, out)
+        }
+        Command::Step => {
+            let answer = caller.step(reply);
+            write_answer(number, answer, reply, out)
+        }
+        Command::Room(count) => {
+            *room = count;
+            Ok(())
         }
         Command::Show => {
-            let shown = show::put_chip(rt, console.board.chip, page, output);
-            next.output = shown;
-            next
+            let chip = caller.chip();
+            let record = Record(&chip);
+            write!(out, "{record}")
         }
-        Command::Help => {
-            let helped = messages::put_help(rt, page, output);
-            next.output = helped;
-            next
-        }
-        Command::Fault(fault) => {
-            let told = answer_fault(rt, console.line, fault, line, page, output);
-            next.output = told;
-            next
-        }
-        _ => next,
-    }
-}
-
-// Does what a line asks for, with so many bytes lent for the reply.
-fn perform(
-    rt: &impl Print,
-    console: Console,
-    command: Command,
-    line: &[u8],
-    bytes: &[u8],
-    reply: &mut [u8],
-    page: &mut [u8],
-) -> Console {
-    match command {
-        Command::Transfer(_count) => transfer(rt, console, bytes, reply, page),
-        Command::Event(sent, _count) => event(rt, console, sent, bytes, reply, page),
-        Command::Step => step(rt, console, reply, page),
-        _ => tell(rt, console, command, line, page),
+        Command::Help => out.write_str(HELP),
     }
 }
 
@@ -148,35 +122,57 @@ fn perform(
 pub fn lent(room: usize) -> usize
     ensures { result ≤ 4200 }
 {
-    if ROOM < room { ROOM } else { room }
+    room.min(ROOM)
 }
 
-// Takes a line, without its line end, and puts its answer where the output has come to. The lent bytes are for what the line names.
+// Takes a line, without its line end, for a caller with so much room, and puts its answer. The lent bytes are for what the line names.
 pub fn take_line(
-    rt: &impl Print,
-    console: Console,
+    caller: &mut impl Caller,
+    room: &mut usize,
     number: u64,
     line: &[u8],
     bytes: &mut [u8],
-    page: &mut [u8],
-    output: Output,
-) -> Console
+    out: &mut impl Write,
+) -> fmt::Result
     requires { length line.now ≤ length bytes.old }
 {
-    let mut next = console;
-    next.line = number;
-    next.output = output;
-    let mut reply = [0u8; 4200];
-    let command = script::parse(line, bytes);
-    let count = command.count();
-    let room = lent(console.room);
-    perform(
-        rt,
-        next,
-        command,
-        line,
-        &bytes[..count],
-        &mut reply[..room],
-        page,
-    )
+    match script::parse(line, bytes) {
+        Ok(Some(command)) => {
+            let count = command.count();
+            perform(caller, room, number, command, &bytes[..count], out)
+        }
+        Ok(None) => Ok(()),
+        Err(fault) => {
+            let reason = Reason(fault);
+            writeln!(out, "{number} error: {reason}")
+        }
+    }
+}
+
+#[derive(Clone, Copy)]
+pub struct Console {
+    pub board: Board,
+    pub room: usize,
+}
+
+impl Console {
+    pub fn power_on() -> Self {
+        Console {
+            board: Board::power_on(),
+            room: ROOM,
+        }
+    }
+
+    // Takes a line as the board's caller.
+    pub fn take_line(
+        &mut self,
+        number: u64,
+        line: &[u8],
+        bytes: &mut [u8],
+        out: &mut impl Write,
+    ) -> fmt::Result
+        requires { length line.now ≤ length bytes.old }
+    {
+        take_line(&mut self.board, &mut self.room, number, line, bytes, out)
+    }
 }

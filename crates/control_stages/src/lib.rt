@@ -1,23 +1,16 @@
 // The stage of a control transfer, read off the setup bytes (document 01, "The bus side").
 #![tactic(auto)]
 
-ghost use Rattle.std.specs.Prelude.{◌≡◌, ◌+◌, ◌*◌};
+ghost use Rattle.std.specs.Prelude.{◌≡◌};
 ghost use Rattle.rules.specs.Control.{w_length, reading, sets_address};
 
 use chip::Chip;
-
-// A word, low byte first.
-fn word(low: u8, high: u8) -> u16
-    ensures { result ≡ low + 256 * high }
-{
-    (low as u16) + 256 * (high as u16)
-}
 
 pub fn w_length(chip: Chip) -> u16
     ensures { result ≡ w_length chip }
 {
     let setup = chip.ep0.setup;
-    word(setup[6], setup[7])
+    u16::from_le_bytes([setup[6], setup[7]])
 }
 
 // IN is data and OUT is status.

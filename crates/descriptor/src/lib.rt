@@ -1,7 +1,7 @@
 // The descriptors and the other data that a request reads, and how they are sent (document 01, "The firmware").
 #![tactic(auto)]
 
-ghost use Rattle.std.specs.Prelude.{◌≡◌, ◌≤◌, min, length};
+ghost use Rattle.std.specs.Prelude.{◌≡◌, ◌≤◌, length};
 ghost use Rattle.descriptor.specs.Table.{data_bytes};
 ghost use Rattle.descriptor.specs.Send.{Sent};
 
@@ -41,18 +41,13 @@ const PRODUCT: [u8; 38] = *b"\x26\x03M\0A\0X\03\04\02\00\0E\0 \0E\0n\0u\0m\0 \0C
 
 const SERIAL_NUMBER: [u8; 20] = *b"\x14\x03S\0/\0N\0 \03\04\02\00\0E\0";
 
-fn least(a: usize, b: usize) -> usize
-    ensures { result ≡ min a b }
-{
-    if a < b { a } else { b }
-}
-
+// The 64 bytes stand in each promise: the buffer is lent by the call's caller, C programs too, and a type round it would only say them again.
 // Copies the first bytes of a table, at most wLength, to the start of the reply buffer, and tells how many.
 fn copy(table: &[u8], wlength: u16, reply: &mut [u8]) -> u8
     requires { (length table.now ≤ 64) × (64 ≤ length reply.old) }
     ensures { Sent table.now wlength reply.old result reply.new }
 {
-    let n = least(wlength as usize, table.len());
+    let n = (wlength as usize).min(table.len());
     octets::copy(&table[..n], reply);
     n as u8
 }

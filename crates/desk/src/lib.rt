@@ -2,17 +2,42 @@
 // of that desk. The classroom stays in its place: no function below takes it, and no two ways join holding it (docs/BENCHMARK.md).
 #![tactic(auto)]
 
-ghost use Rattle.std.specs.Prelude.{◌≡◌, length};
+ghost use Rattle.std.specs.Prelude.{◌≡◌, ◌<◌, length, MatchResult, Ok, Err};
+ghost use Rattle.chip.specs.declared.Pin.TheVariants.{Open};
 ghost use Rattle.model.specs.Call.{Call};
-ghost use Rattle.classroom.specs.Calls.{desk_transfer, transfer_lent, desk_event, event_lent, desk_step, step_lent};
+ghost use Rattle.classroom.specs.Calls.{calling_checked, desk_transfer, transfer_lent, desk_event, event_lent, desk_step, step_lent};
 
-use board::StepReply;
-use chip::Pin;
+use chip::{CallAnswer, Pin};
 use classroom::{Classroom, DeskEvent, DeskNumber, DeskStep, DeskTransfer, check_key};
 use event_answer::EventReply;
+use firmware::RequestReply;
 use model::Event;
-use refusal::{Checked, Refusal};
-use spi::TransferReply;
+use refusal::Refusal;
+
+// The place of the desk, or why the call is turned away: 9, 10, 11.
+fn seat_of(room: &Classroom, number: DeskNumber, key: u32) -> Result<usize, Refusal>
+    ensures { MatchResult result
+        (λ i. (i ≡ number.0) × (i < 16) × (calling_checked room.now number key ≡ Ok tt))
+        (λ r. calling_checked room.now number key ≡ Err r) }
+{
+    let i = number.0 as usize;
+    if 16 <= i {
+        return Err(Refusal::NoDesk);
+    }
+    check_key(room.desks[i].opened, room.desks[i].key, key)?;
+    Ok(i)
+}
+
+// A call that is turned away tells nothing of the desk: the pin is open.
+fn turned_away<R>(room: Classroom, refusal: Refusal) -> CallAnswer<Classroom, R>
+    ensures { result ≡ record { state = room; reply = Err refusal; pin = Open } }
+{
+    CallAnswer {
+        state: room,
+        reply: Err(refusal),
+        pin: Pin::Open,
+    }
+}
 
 pub fn transfer(
     mut room: Classroom,
@@ -24,36 +49,19 @@ pub fn transfer(
     ensures { (result ≡ desk_transfer room number key (Call.transfer bytes.now (length reply.old)))
         × (reply.new ≡ transfer_lent room number key bytes.now reply.old) }
 {
-    let i = number.0 as usize;
-    if 16 <= i {
-        return DeskTransfer {
-            classroom: room,
-            reply: TransferReply::Refused(Refusal::NoDesk),
-            pin: Pin::Open,
-        };
-    }
-    let checked = check_key(room.desks[i].opened, room.desks[i].key, key);
-    match checked {
-        Checked::Accepted => {
+    match seat_of(&room, number, key) {
+        Ok(i) => {
             let mut seat = room.desks[i];
-            let board = seat.board;
-            let answer = board::transfer(board, bytes, reply);
-            let next = answer.board;
-            let kind = answer.reply;
-            let pin = answer.pin;
-            seat.board = next;
+            let answer = board::transfer(seat.board, bytes, reply);
+            seat.board = answer.state;
             room.desks[i] = seat;
-            DeskTransfer {
-                classroom: room,
-                reply: kind,
-                pin,
+            CallAnswer {
+                state: room,
+                reply: answer.reply,
+                pin: answer.pin,
             }
         }
-        Checked::Refused(refusal) => DeskTransfer {
-            classroom: room,
-            reply: TransferReply::Refused(refusal),
-            pin: Pin::Open,
-        },
+        Err(refusal) => turned_away::<u16>(room, refusal),
     }
 }
 
@@ -68,36 +76,19 @@ pub fn event(
     ensures { (result ≡ desk_event room number key (Call.event event payload.now (length reply.old)))
         × (reply.new ≡ event_lent room number key event payload.now reply.old) }
 {
-    let i = number.0 as usize;
-    if 16 <= i {
-        return DeskEvent {
-            classroom: room,
-            reply: EventReply::Refused(Refusal::NoDesk),
-            pin: Pin::Open,
-        };
-    }
-    let checked = check_key(room.desks[i].opened, room.desks[i].key, key);
-    match checked {
-        Checked::Accepted => {
+    match seat_of(&room, number, key) {
+        Ok(i) => {
             let mut seat = room.desks[i];
-            let board = seat.board;
-            let answer = board::event(board, event, payload, reply);
-            let next = answer.board;
-            let kind = answer.reply;
-            let pin = answer.pin;
-            seat.board = next;
+            let answer = board::event(seat.board, event, payload, reply);
+            seat.board = answer.state;
             room.desks[i] = seat;
-            DeskEvent {
-                classroom: room,
-                reply: kind,
-                pin,
+            CallAnswer {
+                state: room,
+                reply: answer.reply,
+                pin: answer.pin,
             }
         }
-        Checked::Refused(refusal) => DeskEvent {
-            classroom: room,
-            reply: EventReply::Refused(refusal),
-            pin: Pin::Open,
-        },
+        Err(refusal) => turned_away::<EventReply>(room, refusal),
     }
 }
 
@@ -105,35 +96,18 @@ pub fn step(mut room: Classroom, number: DeskNumber, key: u32, reply: &mut [u8])
     ensures { (result ≡ desk_step room number key (length reply.old))
         × (reply.new ≡ step_lent room number key reply.old) }
 {
-    let i = number.0 as usize;
-    if 16 <= i {
-        return DeskStep {
-            classroom: room,
-            reply: StepReply::Refused(Refusal::NoDesk),
-            pin: Pin::Open,
-        };
-    }
-    let checked = check_key(room.desks[i].opened, room.desks[i].key, key);
-    match checked {
-        Checked::Accepted => {
+    match seat_of(&room, number, key) {
+        Ok(i) => {
             let mut seat = room.desks[i];
-            let board = seat.board;
-            let answer = board::step(board, reply);
-            let next = answer.board;
-            let kind = answer.reply;
-            let pin = answer.pin;
-            seat.board = next;
+            let answer = board::step(seat.board, reply);
+            seat.board = answer.state;
             room.desks[i] = seat;
-            DeskStep {
-                classroom: room,
-                reply: kind,
-                pin,
+            CallAnswer {
+                state: room,
+                reply: answer.reply,
+                pin: answer.pin,
             }
         }
-        Checked::Refused(refusal) => DeskStep {
-            classroom: room,
-            reply: StepReply::Refused(refusal),
-            pin: Pin::Open,
-        },
+        Err(refusal) => turned_away::<Option<RequestReply>>(room, refusal),
     }
 }

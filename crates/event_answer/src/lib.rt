@@ -4,13 +4,12 @@
 ghost use Rattle.std.specs.Prelude.{◌≡◌};
 ghost use Rattle.event_answer.specs.Answer.{data_reply, event_answer_with};
 
-use chip::{Chip, Pin};
+use chip::{CallAnswer, Chip};
 use refusal::Refusal;
 
-// What an event is replied: a refusal; events 1 to 9 done; nothing on the bus; a handshake; a data packet of so many bytes.
-#[derive(Clone, Copy)]
+// What an event that is not refused is replied: events 1 to 9 done; nothing on the bus; a handshake; a data packet of so many bytes.
+#[derive(Clone, Copy, Debug, PartialEq, Eq)]
 pub enum EventReply {
-    Refused(Refusal),
     Done,
     Silence,
     Ack,
@@ -20,21 +19,17 @@ pub enum EventReply {
     Data1(u8),
 }
 
-// The record handed back, the reply, and the INT pin.
-#[derive(Clone, Copy)]
-pub struct EventAnswer {
-    pub chip: Chip,
-    pub reply: EventReply,
-    pub pin: Pin,
-}
+pub type EventAnswer = CallAnswer<Chip, EventReply>;
 
 // The answer with this record and this reply.
-pub fn answer_with(chip: Chip, reply: EventReply) -> EventAnswer
+pub fn answer_with(chip: Chip, reply: Result<EventReply, Refusal>) -> EventAnswer
     ensures { result ≡ event_answer_with chip reply }
 {
-    let g = chip.registers;
-    let pin = g.pin();
-    EventAnswer { chip, reply, pin }
+    CallAnswer {
+        state: chip,
+        reply,
+        pin: chip.registers.pin(),
+    }
 }
 
 // A data packet of so many bytes.

@@ -1,4 +1,5 @@
 -- A body is refused with 5 exactly where no layout fits; and the body of an event is refused as the event is.
+use Rattle.std.specs.Prelude.{Err}
 use mathlib.Core.Path.{◌≡◌, refl, sym, ap, ◌∙◌}
 use mathlib.Core.Logic.{◌↔◌}
 use mathlib.Core.Bool.{Bool, true, false, not, cond, ◌&&◌, ◌||◌}
@@ -10,7 +11,6 @@ use lib.ListN.{length}
 use borrow.Author.Tests.{ne_eqb, not-true}
 use Rattle.bits.proofs.Cases.{cond_elim, and_true, or_false, true_is_false}
 use Rattle.refusal.specs.declared.Refusal.TheVariants.{Unsound, ShortBuffer, UnknownEvent, OutPayload, SetupPayload, BadAddress}
-use Rattle.refusal.specs.declared.Checked.TheVariants.{Refused}
 use Rattle.refusal.specs.Check.{check}
 use Rattle.refusal.proofs.Check.{check_exactly}
 use Rattle.model.specs.declared.Event.{Event}
@@ -50,7 +50,7 @@ no_event_law xs = (
 
 -- and exactly there it is refused with 5, whatever the payload and the room
 pub refused_5 : (xs : List ℕ) (n room : ℕ)
-    → (check (event_grounds true (event_of xs) n room) ≡ Refused UnknownEvent) ↔ (is_event_body xs ≡ false)
+    → (check (event_grounds true (event_of xs) n room) ≡ Err UnknownEvent) ↔ (is_event_body xs ≡ false)
 refused_5 xs n room = (
   (λ r. not-true (is_event_body xs)
       (sym (code_known xs) ∙ ((check_exactly (event_grounds true (event_of xs) n room) refl 2 (omega arith)).0 r).applies)),

@@ -1,9 +1,9 @@
-// The body of an event in a lesson (document 02, Ask 5), to an event and back.
+// The body of an event in a lesson (document 02, Ask 5), to an event and back. Codes and marks are numbers, as in the file and in crate model.
 #![tactic(auto)]
 
-ghost use Rattle.std.specs.Prelude.{◌≡◌, [], ◌∷◌, ◌+◌, ◌≤◌, length, get_or};
+ghost use Rattle.std.specs.Prelude.{◌≡◌, false, [], ◌∷◌, ◌+◌, ◌≤◌, length};
 ghost use Rattle.std.proofs.lemmas.List.Edits.{sets};
-ghost use Rattle.event_body.specs.Body.{is_signal, signal, input_pins, transaction, event_of, payload_of, mark, body_of};
+ghost use Rattle.event_body.specs.Body.{is_signal, signal, event_of, payload_of, body_of};
 
 use model::{EndpointNumber, Event};
 
@@ -17,20 +17,10 @@ const IN: u8 = 12;
 
 // ---- what a body is read as
 
-// The byte at a place; past the end 0.
-fn byte_at(body: &[u8], place: usize) -> u8
-    ensures { result ≡ get_or body.now place 0 }
-{
-    if place < body.len() {
-        return body[place];
-    }
-    0
-}
-
 fn is_signal(code: u8) -> bool
     ensures { result ≡ is_signal code }
 {
-    ((1 <= code) & (code <= 4)) | ((6 <= code) & (code <= 9))
+    matches!(code, 1..=4 | 6..=9)
 }
 
 // An event that is only a code.
@@ -48,84 +38,60 @@ fn read_signal(code: u8) -> Event
     }
 }
 
-fn read_pins(levels: u8) -> Event
-    ensures { result ≡ input_pins levels }
+// The event of a body that is long enough for a transaction's: its marks are those that its code has, and IN has no payload.
+#[tactic(auto, unfolding(crate::specs::Body::event_of))]
+fn read_transaction(body: &[u8]) -> Event
+    requires { 4 ≤ length body.now }
+    ensures { result ≡ event_of body.now }
 {
-    Event {
-        code: PINS,
-        pins: levels,
-        address: 0,
-        endpoint: EndpointNumber(0),
-        damaged: false,
-        data1: false,
-        acknowledged: false,
+    let marks = body[3];
+    let transaction = Event {
+        address: body[1],
+        endpoint: EndpointNumber(body[2]),
+        ..read_signal(body[0])
+    };
+    match transaction.code {
+        SETUP if marks <= 1 => Event {
+            damaged: marks == 1,
+            ..transaction
+        },
+        OUT if marks <= 3 => Event {
+            damaged: marks % 2 == 1,
+            data1: 2 <= marks,
+            ..transaction
+        },
+        IN if body.len() == 4 && marks <= 1 => Event {
+            acknowledged: marks == 1,
+            ..transaction
+        },
+        _ => read_signal(0),
     }
 }
 
-// A transaction with the address and the endpoint of its body.
-fn read_transaction(code: u8, body: &[u8], damaged: bool, data1: bool, acknowledged: bool) -> Event
-    ensures { result ≡ transaction code body.now damaged data1 acknowledged }
-{
-    let address = byte_at(body, 1);
-    let endpoint = byte_at(body, 2);
-    Event {
-        code,
-        pins: 0,
-        address,
-        endpoint: EndpointNumber(endpoint),
-        damaged,
-        data1,
-        acknowledged,
-    }
-}
-
-// The event of a body; of a body that is no event's, event 0. One test for each layout.
+// The event of a body; of a body that is no event's, event 0.
 #[tactic(auto, unfolding(crate::specs::Body::event_of))]
 pub fn event_of(body: &[u8]) -> Event
     ensures { result ≡ event_of body.now }
 {
-    let n = body.len();
-    let code = byte_at(body, 0);
-    let marks = byte_at(body, 3);
-    if is_signal(code) & (n == 1) {
-        return read_signal(code);
+    match body {
+        [code] if is_signal(*code) => read_signal(*code),
+        [PINS, levels] => Event {
+            pins: *levels,
+            ..read_signal(PINS)
+        },
+        [_, _, _, _, ..] => read_transaction(body),
+        _ => read_signal(0),
     }
-    if (code == PINS) & (n == 2) {
-        return read_pins(byte_at(body, 1));
-    }
-    if (code == SETUP) & (4 <= n) & (marks <= 1) {
-        return read_transaction(SETUP, body, marks == 1, false, false);
-    }
-    if (code == OUT) & (4 <= n) & (marks <= 3) {
-        return read_transaction(OUT, body, marks % 2 == 1, 2 <= marks, false);
-    }
-    if (code == IN) & (n == 4) & (marks <= 1) {
-        return read_transaction(IN, body, false, false, marks == 1);
-    }
-    read_signal(0)
 }
 
 // The payload of a transaction's body; of a shorter one none.
 pub fn payload_of(body: &[u8]) -> &[u8]
     ensures { result.now ≡ payload_of body.now }
 {
-    if body.len() < 4 {
-        &body[..0]
-    } else {
-        &body[4..]
-    }
+    body.get(4..).unwrap_or(&[])
 }
 
 // ---- the body of an event
-
-fn mark_of(marked: bool) -> u8
-    ensures { (result ≡ mark marked) × (result ≤ 1) }
-{
-    if marked {
-        return 1;
-    }
-    0
-}
 
 // A transaction's body: its code, address, endpoint and marks, then the payload.
 fn put_transaction(event: Event, marks: u8, payload: &[u8], body: &mut [u8]) -> usize
@@ -134,10 +100,11 @@ fn put_transaction(event: Event, marks: u8, payload: &[u8], body: &mut [u8]) -> 
         × (body.new
         ≡ sets body.old 0 (event.code ∷ event.address ∷ event.endpoint.0 ∷ marks ∷ payload.now)) }
 {
-    body[0] = event.code;
-    body[1] = event.address;
-    body[2] = event.endpoint.0;
-    body[3] = marks;
+    little_endian::put_bytes(
+        body,
+        0,
+        &[event.code, event.address, event.endpoint.0, marks],
+    );
     little_endian::put_bytes(body, 4, payload);
     4 + payload.len()
 }
@@ -149,22 +116,20 @@ pub fn put_body(event: Event, payload: &[u8], body: &mut [u8]) -> usize
     ensures { (result ≡ length (body_of event payload.now))
         × (body.new ≡ sets body.old 0 (body_of event payload.now)) }
 {
-    let code = event.code;
-    if code == PINS {
-        body[0] = PINS;
-        body[1] = event.pins;
-        return 2;
+    match event.code {
+        PINS => {
+            little_endian::put_bytes(body, 0, &[PINS, event.pins]);
+            2
+        }
+        SETUP => put_transaction(event, u8::from(event.damaged), payload, body),
+        OUT => {
+            let marks = u8::from(event.damaged) + 2 * u8::from(event.data1);
+            put_transaction(event, marks, payload, body)
+        }
+        IN => put_transaction(event, u8::from(event.acknowledged), &[], body),
+        code => {
+            body[0] = code;
+            1
+        }
     }
-    if code == SETUP {
-        return put_transaction(event, mark_of(event.damaged), payload, body);
-    }
-    if code == OUT {
-        let marks = mark_of(event.damaged) + 2 * mark_of(event.data1);
-        return put_transaction(event, marks, payload, body);
-    }
-    if code == IN {
-        return put_transaction(event, mark_of(event.acknowledged), &payload[..0], body);
-    }
-    body[0] = code;
-    1
 }

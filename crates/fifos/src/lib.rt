@@ -1,5 +1,5 @@
 // R0 to R4, the FIFO registers, on the endpoint that each belongs to, and their writes on the record (document 01, "Writes" and
-// "Reads").
+// "Reads"). R0, R2 and R3 have a function each, since each endpoint has a record of its own: C programs hold them so.
 #![tactic(auto)]
 
 ghost use Rattle.std.specs.Prelude.{◌≡◌};

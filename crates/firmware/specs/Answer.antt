@@ -1,10 +1,9 @@
 -- The firmware's answer to a call: the answer, and the reply buffer after it (document 01, "The firmware" and "Numbers
 -- of refusal").
-use Rattle.std.specs.Prelude.{◌≡◌, Bool, not, cond, List, [], ◌∷◌, ℕ, eqb, ltb, length}
+use Rattle.std.specs.Prelude.{◌≡◌, Bool, not, cond, List, [], ◌∷◌, ℕ, eqb, ltb, length, Result, Ok, Err}
 use Rattle.refusal.specs.declared.Refusal.{Refusal}
 use Rattle.refusal.specs.declared.Refusal.TheVariants.{Unsound, ShortBuffer, SetupPayload}
-use Rattle.refusal.specs.declared.Checked.{Checked}
-use Rattle.refusal.specs.declared.Checked.TheVariants as checked
+use Rattle.refusal.specs.Check.{Checked, tells}
 use Rattle.refusal.specs.Check.{check, checked_number, checked_found, unless_refused}
 use Rattle.descriptor.specs.Send.{count, written}
 use Rattle.descriptor.specs.Table.{data_bytes}
@@ -15,38 +14,31 @@ use Rattle.request.specs.declared.Request.{Request}
 use Rattle.request.specs.declared.Decision.{Decision}
 use Rattle.request.specs.declared.Endpoints.TheVariants.{Unchanged}
 use Rattle.firmware.specs.declared.RequestReply.{RequestReply}
-use Rattle.firmware.specs.declared.RequestReply.TheVariants.{Refused, Stall, Ack, Data}
+use Rattle.firmware.specs.declared.RequestReply.TheVariants.{Stall, Ack, Data}
 use Rattle.firmware.specs.declared.RequestAnswer.{RequestAnswer}
 
 -- ---- numbers
 
--- what a reply tells of the check
-abbrev pub request_tells : RequestReply → Checked
-request_tells (Refused r) = checked.Refused r
-request_tells Stall = checked.Accepted
-request_tells Ack = checked.Accepted
-request_tells (Data n) = checked.Accepted
-
 -- the number of refusal, and the length that it tells; 0 is none
-abbrev pub request_refusal : RequestReply → ℕ
-request_refusal r = checked_number (request_tells r)
+abbrev pub request_refusal : Result RequestReply Refusal → ℕ
+request_refusal r = checked_number (tells r)
 
-abbrev pub request_found : RequestReply → ℕ
-request_found r = checked_found (request_tells r)
+abbrev pub request_found : Result RequestReply Refusal → ℕ
+request_found r = checked_found (tells r)
 
 -- 1 STALL, 2 ACK only, 3 data and ACK; 0 is no answer
-abbrev pub request_kind : RequestReply → ℕ
-request_kind (Refused r) = 0
-request_kind Stall = 1
-request_kind Ack = 2
-request_kind (Data n) = 3
+abbrev pub request_kind : Result RequestReply Refusal → ℕ
+request_kind (Err r) = 0
+request_kind (Ok Stall) = 1
+request_kind (Ok Ack) = 2
+request_kind (Ok (Data n)) = 3
 
 -- the bytes that the reply counts
-abbrev pub request_count : RequestReply → ℕ
-request_count (Refused r) = 0
-request_count Stall = 0
-request_count Ack = 0
-request_count (Data n) = n
+abbrev pub request_count : Result RequestReply Refusal → ℕ
+request_count (Err r) = 0
+request_count (Ok Stall) = 0
+request_count (Ok Ack) = 0
+request_count (Ok (Data n)) = n
 
 -- ---- what a request is answered
 
@@ -56,7 +48,7 @@ pub record Handled : Type 0 where
   pub buffer : List ℕ
 
 -- the record and the endpoints stay
-abbrev pub unchanged : RequestReply → Firmware → RequestAnswer
+abbrev pub unchanged : Result RequestReply Refusal → Firmware → RequestAnswer
 unchanged r f = record { reply = r; firmware = f; endpoints = Unchanged }
 
 -- n bytes and ACK; n = 0 is ACK only
@@ -64,11 +56,11 @@ abbrev pub counted : ℕ → RequestReply
 counted n = cond (eqb n 0) Ack (Data n)
 
 abbrev pub decision_served : Decision → ℕ → Firmware → List ℕ → Handled
-decision_served Decision.Stall wlength f reply = record { answer = unchanged Stall f; buffer = reply }
+decision_served Decision.Stall wlength f reply = record { answer = unchanged (Ok Stall) f; buffer = reply }
 decision_served (Decision.Send d) wlength f reply =
-    record { answer = unchanged (counted (count (data_bytes d) wlength)) f; buffer = written (data_bytes d) wlength reply }
+    record { answer = unchanged (Ok (counted (count (data_bytes d) wlength))) f; buffer = written (data_bytes d) wlength reply }
 decision_served (Decision.Accept next e) wlength f reply =
-    record { answer = record { reply = Ack; firmware = next; endpoints = e }; buffer = reply }
+    record { answer = record { reply = Ok Ack; firmware = next; endpoints = e }; buffer = reply }
 
 unfoldable pub served_of : Request → Firmware → List ℕ → Handled
 served_of q f reply = decision_served (decision_of q f) q.wlength f reply
@@ -88,11 +80,11 @@ request_checked setup f room = check (request_grounds setup f room)
 
 -- refused: record and reply buffer come back unchanged
 abbrev pub refused_with : Refusal → Firmware → List ℕ → Handled
-refused_with r f reply = record { answer = unchanged (Refused r) f; buffer = reply }
+refused_with r f reply = record { answer = unchanged (Err r) f; buffer = reply }
 
 abbrev pub checked_handled : List ℕ → Firmware → List ℕ → Checked → Handled
-checked_handled setup f reply checked.Accepted = served_of (request_of setup) f reply
-checked_handled setup f reply (checked.Refused r) = refused_with r f reply
+checked_handled setup f reply (Ok tt) = served_of (request_of setup) f reply
+checked_handled setup f reply (Err r) = refused_with r f reply
 
 unfoldable pub handled : List ℕ → Firmware → List ℕ → Handled
 handled setup f reply = checked_handled setup f reply (request_checked setup f (length reply))
@@ -111,8 +103,8 @@ decision_count (Decision.Send d) wlength = count (data_bytes d) wlength
 decision_count (Decision.Accept next e) wlength = 0
 
 -- a promise's numbers: refusal with its length, kind and count of the reply
-pub record Numbers (setup : List ℕ) (f : Firmware) (buffer : List ℕ) (r : RequestReply) : Type 0 where
-  pub refusal : request_tells r ≡ request_checked setup f (length buffer)
+pub record Numbers (setup : List ℕ) (f : Firmware) (buffer : List ℕ) (r : Result RequestReply Refusal) : Type 0 where
+  pub refusal : tells r ≡ request_checked setup f (length buffer)
   pub kind : request_kind r
       ≡ unless_refused (request_checked setup f (length buffer)) (decision_kind (decision_of (request_of setup) f) (request_of setup).wlength)
   pub count : request_count r

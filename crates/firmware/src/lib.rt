@@ -2,7 +2,7 @@
 #![tactic(auto)]
 
 ghost use Rattle.std.specs.Prelude.{◌≡◌, ◌≤◌, length};
-ghost use Rattle.request.specs.Request.{word, request_of};
+ghost use Rattle.request.specs.Request.{request_of};
 ghost use Rattle.firmware.specs.Registers.{epstalls_of, clrtogs_of};
 ghost use Rattle.firmware.specs.Answer.{unchanged, counted, served_of, handled, Numbers};
 
@@ -10,10 +10,9 @@ use refusal::Refusal;
 use request::{Decision, Request};
 pub use request::{Endpoints, Firmware};
 
-// A refusal, STALL, ACK only, or so many bytes and ACK.
-#[derive(Clone, Copy)]
+// STALL, ACK only, or so many bytes and ACK.
+#[derive(Clone, Copy, Debug, PartialEq, Eq)]
 pub enum RequestReply {
-    Refused(Refusal),
     Stall,
     Ack,
     Data(u8),
@@ -22,16 +21,9 @@ pub enum RequestReply {
 // The reply, the next record, and what is to be written to R9 and R10 before the ACK.
 #[derive(Clone, Copy)]
 pub struct RequestAnswer {
-    pub reply: RequestReply,
+    pub reply: Result<RequestReply, Refusal>,
     pub firmware: Firmware,
     pub endpoints: Endpoints,
-}
-
-// A word, low byte first.
-fn word(low: u8, high: u8) -> u16
-    ensures { result ≡ word low high }
-{
-    (low as u16) + 256 * (high as u16)
 }
 
 // The fields that the eight setup bytes spell.
@@ -42,9 +34,9 @@ fn parse(setup: &[u8]) -> Request
     Request {
         bmrequesttype: setup[0],
         brequest: setup[1],
-        wvalue: word(setup[2], setup[3]),
-        windex: word(setup[4], setup[5]),
-        wlength: word(setup[6], setup[7]),
+        wvalue: u16::from_le_bytes([setup[2], setup[3]]),
+        windex: u16::from_le_bytes([setup[4], setup[5]]),
+        wlength: u16::from_le_bytes([setup[6], setup[7]]),
     }
 }
 
@@ -60,7 +52,7 @@ fn counted(n: u8) -> RequestReply
 }
 
 // A reply that leaves the record and the endpoints as they are.
-fn unchanged(reply: RequestReply, firmware: Firmware) -> RequestAnswer
+fn unchanged(reply: Result<RequestReply, Refusal>, firmware: Firmware) -> RequestAnswer
     ensures { result ≡ unchanged reply firmware }
 {
     RequestAnswer {
@@ -78,12 +70,12 @@ fn serve(request: Request, firmware: Firmware, reply: &mut [u8]) -> RequestAnswe
         × (reply.new ≡ (served_of request firmware reply.old).buffer) }
 {
     match request::decide(request, firmware) {
-        Decision::Stall => unchanged(RequestReply::Stall, firmware),
+        Decision::Stall => unchanged(Ok(RequestReply::Stall), firmware),
         Decision::Send(contents) => {
-            unchanged(counted(contents.send(request.wlength, reply)), firmware)
+            unchanged(Ok(counted(contents.send(request.wlength, reply))), firmware)
         }
         Decision::Accept(next, endpoints) => RequestAnswer {
-            reply: RequestReply::Ack,
+            reply: Ok(RequestReply::Ack),
             firmware: next,
             endpoints,
         },
@@ -121,16 +113,13 @@ pub fn answer(setup: &[u8], firmware: Firmware, reply: &mut [u8]) -> RequestAnsw
         × Numbers setup.now firmware reply.old result.reply }
 {
     if !firmware.is_sound() {
-        return unchanged(RequestReply::Refused(Refusal::Unsound), firmware);
+        return unchanged(Err(Refusal::Unsound), firmware);
     }
     if reply.len() < 64 {
-        return unchanged(RequestReply::Refused(Refusal::ShortBuffer), firmware);
+        return unchanged(Err(Refusal::ShortBuffer), firmware);
     }
     if setup.len() != 8 {
-        return unchanged(
-            RequestReply::Refused(Refusal::SetupPayload(setup.len())),
-            firmware,
-        );
+        return unchanged(Err(Refusal::SetupPayload(setup.len())), firmware);
     }
     serve(parse(setup), firmware, reply)
 }

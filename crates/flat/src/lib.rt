@@ -1,19 +1,23 @@
-// What the C functions hand back: the records as they are, the reply and the pin as numbers (include/max3420e.h).
+// What the C functions hand back: the records as they are, the reply and the pin as numbers (include/max3420e.h). The numbers are that
+// interface's alone, so that they stand here and not as a `From` of the types.
 #![tactic(auto)]
 
-ghost use Rattle.std.specs.Prelude.{◌≡◌};
+ghost use Rattle.std.specs.Prelude.{◌≡◌, refl, ℕ, Result, Ok, Err};
+ghost use Rattle.refusal.specs.declared.Refusal.{Refusal};
 ghost use Rattle.refusal.specs.Number.{refusal_number, refusal_found};
 ghost use Rattle.chip.specs.Pin.{pin_number};
-ghost use Rattle.flat.specs.Answer.{transfer_numbers, event_numbers, step_numbers, request_numbers, endpoints_number};
-ghost use Rattle.flat.specs.Answer.{flat_transfer, flat_event, flat_step, flat_request};
+ghost use Rattle.spi.specs.Transfer.{transfer_count};
+ghost use Rattle.bus.specs.EventCall.{event_pid, event_count};
+ghost use Rattle.firmware.specs.Answer.{request_kind, request_count};
+ghost use Rattle.board.specs.Board.{step_kind, step_count};
+ghost use Rattle.flat.specs.Answer.{numbers_of, endpoints_number, flat_answer_of, flat_step, flat_request};
 
-use board::{BoardStep, StepReply};
-use bus::{EventAnswer, EventReply};
-use chip::{Chip, Pin};
+use board::BoardStep;
+use bus::EventReply;
+use chip::{CallAnswer, Chip, Pin};
 use firmware::{RequestAnswer, RequestReply};
 use refusal::Refusal;
 use request::{Endpoints, Firmware};
-use spi::{TransferAnswer, TransferReply};
 
 // What a transfer or an event hands back.
 #[repr(C)]
@@ -93,50 +97,99 @@ fn answered_numbers(kind: u8, count: u16) -> Numbers
     }
 }
 
-pub fn transfer_numbers(reply: TransferReply) -> Numbers
-    ensures { result ≡ transfer_numbers reply }
-{
-    match reply {
-        TransferReply::Refused(refusal) => refused_numbers(refusal),
-        TransferReply::Transferred(n) => answered_numbers(0, n),
+// What the reply of an accepted call is in numbers. `kind` and `count` read the whole reply, a refusal too.
+pub trait Reply: Copy {
+    ghost kind: { Result Self Refusal → ℕ };
+
+    ghost count: { Result Self Refusal → ℕ };
+
+    fn numbers(self) -> Numbers
+        ensures { result ≡ numbers_of kind count (Ok self) };
+
+    // A refusal has neither.
+    ghost refused_kind: { (r : Refusal) → kind (Err r) ≡ 0 };
+
+    ghost refused_count: { (r : Refusal) → count (Err r) ≡ 0 };
+}
+
+// A transfer's: no packet on the bus, so no PID.
+impl Reply for u16 {
+    ghost kind = { λ r. 0 };
+
+    ghost count = { transfer_count };
+
+    ghost refused_kind = { λ r. refl };
+
+    ghost refused_count = { λ r. refl };
+
+    fn numbers(self) -> Numbers {
+        answered_numbers(0, self)
     }
 }
 
-pub fn event_numbers(reply: EventReply) -> Numbers
-    ensures { result ≡ event_numbers reply }
-{
-    match reply {
-        EventReply::Refused(refusal) => refused_numbers(refusal),
-        EventReply::Done => answered_numbers(0, 0),
-        EventReply::Silence => answered_numbers(0, 0),
-        EventReply::Ack => answered_numbers(0xd2, 0),
-        EventReply::Nak => answered_numbers(0x5a, 0),
-        EventReply::Stall => answered_numbers(0x1e, 0),
-        EventReply::Data0(n) => answered_numbers(0xc3, n as u16),
-        EventReply::Data1(n) => answered_numbers(0x4b, n as u16),
+impl Reply for EventReply {
+    ghost kind = { event_pid };
+
+    ghost count = { event_count };
+
+    ghost refused_kind = { λ r. refl };
+
+    ghost refused_count = { λ r. refl };
+
+    fn numbers(self) -> Numbers {
+        match self {
+            EventReply::Done | EventReply::Silence => answered_numbers(0, 0),
+            EventReply::Ack => answered_numbers(0xd2, 0),
+            EventReply::Nak => answered_numbers(0x5a, 0),
+            EventReply::Stall => answered_numbers(0x1e, 0),
+            EventReply::Data0(n) => answered_numbers(0xc3, n as u16),
+            EventReply::Data1(n) => answered_numbers(0x4b, n as u16),
+        }
     }
 }
 
-pub fn step_numbers(reply: StepReply) -> Numbers
-    ensures { result ≡ step_numbers reply }
-{
-    match reply {
-        StepReply::Refused(refusal) => refused_numbers(refusal),
-        StepReply::Idle => answered_numbers(0, 0),
-        StepReply::Stall => answered_numbers(1, 0),
-        StepReply::Ack => answered_numbers(2, 0),
-        StepReply::Data(n) => answered_numbers(3, n as u16),
+impl Reply for RequestReply {
+    ghost kind = { request_kind };
+
+    ghost count = { request_count };
+
+    ghost refused_kind = { λ r. refl };
+
+    ghost refused_count = { λ r. refl };
+
+    fn numbers(self) -> Numbers {
+        match self {
+            RequestReply::Stall => answered_numbers(1, 0),
+            RequestReply::Ack => answered_numbers(2, 0),
+            RequestReply::Data(n) => answered_numbers(3, n as u16),
+        }
     }
 }
 
-fn request_numbers(reply: RequestReply) -> Numbers
-    ensures { result ≡ request_numbers reply }
+// A step's: where there was nothing to serve, as where nothing is replied.
+impl Reply for Option<RequestReply> {
+    ghost kind = { step_kind };
+
+    ghost count = { step_count };
+
+    ghost refused_kind = { λ r. refl };
+
+    ghost refused_count = { λ r. refl };
+
+    fn numbers(self) -> Numbers {
+        match self {
+            None => answered_numbers(0, 0),
+            Some(served) => served.numbers(),
+        }
+    }
+}
+
+pub fn reply_numbers<R: Reply>(reply: Result<R, Refusal>) -> Numbers
+    ensures { result ≡ numbers_of R.kind R.count reply }
 {
     match reply {
-        RequestReply::Refused(refusal) => refused_numbers(refusal),
-        RequestReply::Stall => answered_numbers(1, 0),
-        RequestReply::Ack => answered_numbers(2, 0),
-        RequestReply::Data(n) => answered_numbers(3, n as u16),
+        Err(refusal) => refused_numbers(refusal),
+        Ok(answered) => answered.numbers(),
     }
 }
 
@@ -152,38 +205,18 @@ fn endpoints_number(endpoints: Endpoints) -> u8
     }
 }
 
-#[tactic(auto, unfolding(crate::specs::Answer::flat_transfer))]
-pub fn flat_transfer(answer: TransferAnswer) -> FlatAnswer
-    ensures { result ≡ flat_transfer answer }
+// A transfer's answer or an event's.
+#[tactic(auto, unfolding(crate::specs::Answer::flat_answer_of))]
+pub fn flat_answer<R: Reply>(answer: CallAnswer<Chip, R>) -> FlatAnswer
+    ensures { result ≡ flat_answer_of R.kind R.count answer }
 {
-    let chip = answer.chip;
-    let reply = answer.reply;
-    let pin = answer.pin;
-    let n = transfer_numbers(reply);
+    let n = reply_numbers(answer.reply);
     FlatAnswer {
-        chip,
+        chip: answer.state,
         refusal: n.refusal,
         pid: n.kind,
         count: n.count,
-        pin: pin_number(pin),
-        found: n.found,
-    }
-}
-
-#[tactic(auto, unfolding(crate::specs::Answer::flat_event))]
-pub fn flat_event(answer: EventAnswer) -> FlatAnswer
-    ensures { result ≡ flat_event answer }
-{
-    let chip = answer.chip;
-    let reply = answer.reply;
-    let pin = answer.pin;
-    let n = event_numbers(reply);
-    FlatAnswer {
-        chip,
-        refusal: n.refusal,
-        pid: n.kind,
-        count: n.count,
-        pin: pin_number(pin),
+        pin: pin_number(answer.pin),
         found: n.found,
     }
 }
@@ -192,19 +225,14 @@ pub fn flat_event(answer: EventAnswer) -> FlatAnswer
 pub fn flat_step(answer: BoardStep) -> FlatBoardAnswer
     ensures { result ≡ flat_step answer }
 {
-    let board = answer.board;
-    let chip = board.chip;
-    let firmware = board.firmware;
-    let reply = answer.reply;
-    let pin = answer.pin;
-    let n = step_numbers(reply);
+    let n = reply_numbers(answer.reply);
     FlatBoardAnswer {
-        chip,
-        firmware,
+        chip: answer.state.chip,
+        firmware: answer.state.firmware,
         refusal: n.refusal,
         kind: n.kind,
         count: n.count,
-        pin: pin_number(pin),
+        pin: pin_number(answer.pin),
         found: n.found,
     }
 }
@@ -216,7 +244,7 @@ pub fn flat_request(answer: RequestAnswer) -> FlatRequestAnswer
     let firmware = answer.firmware;
     let reply = answer.reply;
     let endpoints = answer.endpoints;
-    let n = request_numbers(reply);
+    let n = reply_numbers(reply);
     FlatRequestAnswer {
         firmware,
         refusal: n.refusal,

@@ -1,13 +1,15 @@
 // What the classroom's C functions hand back: the classroom as it is, the reply and the pin as numbers (include/max3420e.h).
+// The numbers are the C interface's, as in crate flat.
 #![tactic(auto)]
 
 ghost use Rattle.std.specs.Prelude.{◌≡◌};
 ghost use Rattle.refusal.specs.Check.{checked_number};
-ghost use Rattle.flat_classroom.specs.Answer.{flat_teacher, flat_desk_transfer, flat_desk_event, flat_desk_step};
+ghost use Rattle.flat_classroom.specs.Answer.{flat_teacher, flat_desk_answer_of, flat_desk_step};
 
-use classroom::{Classroom, DeskEvent, DeskStep, DeskTransfer, TeacherAnswer};
-use flat::{event_numbers, pin_number, step_numbers, transfer_numbers};
-use refusal::Checked;
+use chip::CallAnswer;
+use classroom::{Classroom, DeskStep, TeacherAnswer};
+use flat::{Reply, pin_number, reply_numbers};
+use refusal::Refusal;
 
 // What opening and closing a desk hand back.
 #[repr(C)]
@@ -41,12 +43,12 @@ pub struct FlatDeskStep {
     pub found: usize,
 }
 
-fn checked_number(checked: Checked) -> u8
+fn checked_number(checked: Result<(), Refusal>) -> u8
     ensures { result ≡ checked_number checked }
 {
     match checked {
-        Checked::Accepted => 0,
-        Checked::Refused(refusal) => refusal.number(),
+        Ok(()) => 0,
+        Err(refusal) => refusal.number(),
     }
 }
 
@@ -62,38 +64,18 @@ pub fn flat_teacher(answer: TeacherAnswer) -> FlatTeacherAnswer
     }
 }
 
-#[tactic(auto, unfolding(crate::specs::Answer::flat_desk_transfer))]
-pub fn flat_desk_transfer(answer: DeskTransfer) -> FlatDeskAnswer
-    ensures { result ≡ flat_desk_transfer answer }
+// A transfer's answer or an event's.
+#[tactic(auto, unfolding(crate::specs::Answer::flat_desk_answer_of))]
+pub fn flat_desk_answer<R: Reply>(answer: CallAnswer<Classroom, R>) -> FlatDeskAnswer
+    ensures { result ≡ flat_desk_answer_of R.kind R.count answer }
 {
-    let classroom = answer.classroom;
-    let reply = answer.reply;
-    let pin = answer.pin;
-    let n = transfer_numbers(reply);
+    let n = reply_numbers(answer.reply);
     FlatDeskAnswer {
-        classroom,
+        classroom: answer.state,
         refusal: n.refusal,
         pid: n.kind,
         count: n.count,
-        pin: pin_number(pin),
-        found: n.found,
-    }
-}
-
-#[tactic(auto, unfolding(crate::specs::Answer::flat_desk_event))]
-pub fn flat_desk_event(answer: DeskEvent) -> FlatDeskAnswer
-    ensures { result ≡ flat_desk_event answer }
-{
-    let classroom = answer.classroom;
-    let reply = answer.reply;
-    let pin = answer.pin;
-    let n = event_numbers(reply);
-    FlatDeskAnswer {
-        classroom,
-        refusal: n.refusal,
-        pid: n.kind,
-        count: n.count,
-        pin: pin_number(pin),
+        pin: pin_number(answer.pin),
         found: n.found,
     }
 }
@@ -102,16 +84,13 @@ pub fn flat_desk_event(answer: DeskEvent) -> FlatDeskAnswer
 pub fn flat_desk_step(answer: DeskStep) -> FlatDeskStep
     ensures { result ≡ flat_desk_step answer }
 {
-    let classroom = answer.classroom;
-    let reply = answer.reply;
-    let pin = answer.pin;
-    let n = step_numbers(reply);
+    let n = reply_numbers(answer.reply);
     FlatDeskStep {
-        classroom,
+        classroom: answer.state,
         refusal: n.refusal,
         kind: n.kind,
         count: n.count,
-        pin: pin_number(pin),
+        pin: pin_number(answer.pin),
         found: n.found,
     }
 }

@@ -1,7 +1,7 @@
 -- IN by the endpoint's number: what `in0`, `in2` and `in3` of the rules have of their own, and what they have in common.
-use Rattle.std.specs.Prelude.{Bool, cond, List, ℕ, eqb, take}
+use Rattle.std.specs.Prelude.{◌≤◌, Bool, cond, List, ℕ, eqb, take}
 use Rattle.bits.specs.Flag.{is_on}
-use Rattle.ring.specs.Ring.{oldest_packet}
+use Rattle.ring.specs.Ring.{oldest_count, oldest_packet}
 use Rattle.chip.specs.declared.Chip.{Chip}
 use Rattle.chip.specs.Mask.{ep0inak, ep2inak, ep3inak, in0bavirq, in2bavirq, in3bavirq}
 use Rattle.chip.specs.Set.{set_ep0, set_ep2, set_ep3}
@@ -29,6 +29,10 @@ toggle_at n c = of_endpoint n (is_on c.ep0.intoggle) (is_on c.ep2.toggle) (is_on
 
 abbrev pub packet_at : EndpointNumber → Chip → List ℕ
 packet_at n c = of_endpoint n (take c.ep0.count c.ep0.bytes) (oldest_packet 2 c.ep2.ring) (take c.ep3.count c.ep3.bytes)
+
+-- no packet is longer than a buffer
+abbrev pub PacketsFit : Chip → Type 0
+PacketsFit c = (c.ep0.count ≤ 64) × (oldest_count 2 c.ep2.ring ≤ 64) × (c.ep3.count ≤ 64)
 
 -- the packet leaves, and the endpoint's BAV bit becomes 1
 abbrev pub departed_at : EndpointNumber → Chip → Chip

@@ -8,7 +8,8 @@ ghost use Rattle.ring.specs.Ring.{oldest_count, oldest_packet};
 ghost use Rattle.chip.specs.Mask.{fnaddr_bits};
 ghost use Rattle.rules.specs.Control.{setup_byte, sets_address};
 ghost use Rattle.event_answer.specs.Answer.{event_reply, outcome_answer, outcome_buffer};
-ghost use Rattle.in_transactions.specs.At.{verdict_at, inak_at, bav_at, toggle_at, packet_at, gone_at, outcome_at, in_at};
+ghost use Rattle.in_transactions.specs.At.{of_endpoint, verdict_at, inak_at, bav_at, toggle_at, packet_at, PacketsFit};
+ghost use Rattle.in_transactions.specs.At.{gone_at, outcome_at, in_at};
 
 use chip::{Chip, flipped};
 use event_answer::{EventAnswer, EventReply, answer_with, data_packet};
@@ -29,37 +30,39 @@ fn verdict_at(chip: Chip, endpoint: EndpointNumber) -> InVerdict
     }
 }
 
-fn inak_at(endpoint: EndpointNumber) -> u8
-    ensures { result ≡ inak_at endpoint }
+// What stands at the endpoint, of the bytes of endpoints 0, 2 and 3.
+fn byte_of(endpoint: EndpointNumber, at0: u8, at2: u8, at3: u8) -> u8
+    ensures { result ≡ of_endpoint endpoint at0 at2 at3 }
 {
     let number = endpoint.0;
     match number {
-        0 => Chip::EP0INAK,
-        2 => Chip::EP2INAK,
-        _ => Chip::EP3INAK,
+        0 => at0,
+        2 => at2,
+        _ => at3,
     }
+}
+
+fn inak_at(endpoint: EndpointNumber) -> u8
+    ensures { result ≡ inak_at endpoint }
+{
+    byte_of(endpoint, Chip::EP0INAK, Chip::EP2INAK, Chip::EP3INAK)
 }
 
 fn bav_at(endpoint: EndpointNumber) -> u8
     ensures { result ≡ bav_at endpoint }
 {
-    let number = endpoint.0;
-    match number {
-        0 => Chip::IN0BAVIRQ,
-        2 => Chip::IN2BAVIRQ,
-        _ => Chip::IN3BAVIRQ,
-    }
+    byte_of(endpoint, Chip::IN0BAVIRQ, Chip::IN2BAVIRQ, Chip::IN3BAVIRQ)
 }
 
 fn toggle_at(chip: Chip, endpoint: EndpointNumber) -> bool
     ensures { result ≡ toggle_at endpoint chip }
 {
-    let number = endpoint.0;
-    match number {
-        0 => chip.ep0.intoggle == 1,
-        2 => chip.ep2.toggle == 1,
-        _ => chip.ep3.toggle == 1,
-    }
+    byte_of(
+        endpoint,
+        chip.ep0.intoggle,
+        chip.ep2.toggle,
+        chip.ep3.toggle,
+    ) == 1
 }
 
 // ---- what is replied
@@ -84,8 +87,7 @@ fn copy_oldest(ring: Ring, reply: &mut [u8]) -> u8
 
 // The packet goes to the front of a lent buffer; how many bytes that is.
 fn copy_at(chip: Chip, endpoint: EndpointNumber, reply: &mut [u8]) -> u8
-    requires { (chip.ep0.count ≤ 64) × (oldest_count 2 chip.ep2.ring ≤ 64) × (chip.ep3.count ≤ 64)
-        × (64 ≤ length reply.old) }
+    requires { PacketsFit chip × (64 ≤ length reply.old) }
     ensures { (length (packet_at endpoint chip) ≡ result)
         × (reply.new ≡ packet_at endpoint chip ++ drop result reply.old) }
 {
@@ -112,8 +114,7 @@ fn reply_at(
     verdict: InVerdict,
     reply: &mut [u8],
 ) -> EventReply
-    requires { (chip.ep0.count ≤ 64) × (oldest_count 2 chip.ep2.ring ≤ 64) × (chip.ep3.count ≤ 64)
-        × (64 ≤ length reply.old) }
+    requires { PacketsFit chip × (64 ≤ length reply.old) }
     ensures { (acknowledged : Bool) → (result ≡ event_reply (outcome_at endpoint chip acknowledged verdict).gives)
         × (reply.new ≡ outcome_buffer (outcome_at endpoint chip acknowledged verdict) reply.old) }
 {
@@ -210,12 +211,11 @@ pub fn answer(
     acknowledged: bool,
     reply: &mut [u8],
 ) -> EventAnswer
-    requires { (chip.ep0.count ≤ 64) × (oldest_count 2 chip.ep2.ring ≤ 64) × (chip.ep3.count ≤ 64)
-        × (64 ≤ length reply.old) }
+    requires { PacketsFit chip × (64 ≤ length reply.old) }
     ensures { (result ≡ outcome_answer (in_at endpoint chip acknowledged))
         × (reply.new ≡ outcome_buffer (in_at endpoint chip acknowledged) reply.old) }
 {
     let verdict = verdict_at(chip, endpoint);
     let kind = reply_at(chip, endpoint, verdict, reply);
-    answer_with(chip_at(chip, endpoint, acknowledged, verdict), kind)
+    answer_with(chip_at(chip, endpoint, acknowledged, verdict), Ok(kind))
 }

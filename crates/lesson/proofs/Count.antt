@@ -5,7 +5,7 @@ use Rattle.lesson.specs.Read.{Reading, no_lesson, lesson, with_entry, row_fits, 
 use Rattle.lesson.specs.Read.{entries_of, reading_checked}
 use Rattle.bits.proofs.Cases.{and_true}
 use Rattle.lesson.proofs.Read.{taken, left, more}
-use Rattle.refusal.specs.declared.Checked.TheVariants.{Accepted}
+use Rattle.std.specs.Prelude.{Ok}
 
 count_from : (k i at : ℕ) (f xs : List ℕ) (l : List LessonEntry) → read_from k i at f xs ≡ lesson l → length l ≡ k
 unfolding read_from
@@ -35,11 +35,11 @@ headed_size f l h =
     (leb-true 2 (length f) q.0, leb-true (length f) 65536 q.1)
 
 -- a reading that is accepted is that of its entries
-accepted_reading : (r : Reading) → reading_checked r ≡ Accepted → r ≡ lesson (entries_of r)
+accepted_reading : (r : Reading) → reading_checked r ≡ Ok tt → r ≡ lesson (entries_of r)
 accepted_reading (lesson l) h = refl
 accepted_reading (no_lesson i) h = cc
 
-pub accepted_lesson : (f : List ℕ) → reading_checked (lesson_of f) ≡ Accepted → lesson_of f ≡ lesson (entries_of (lesson_of f))
+pub accepted_lesson : (f : List ℕ) → reading_checked (lesson_of f) ≡ Ok tt → lesson_of f ≡ lesson (entries_of (lesson_of f))
 accepted_lesson f h = accepted_reading (lesson_of f) h
 
 -- ---- where the bodies are

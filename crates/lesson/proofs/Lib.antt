@@ -1,6 +1,7 @@
 pub mod Write
 pub mod Read
 pub mod First
+pub mod Kind
 pub mod Turn
 pub mod Locate
 pub mod Count

@@ -1,9 +1,8 @@
 -- What a file reads as: a lesson, or refusal 13 with the entry that it names (document 02, Ask 5).
-use Rattle.std.specs.Prelude.{ℕ, zero, suc, ◌+◌, ◌*◌, ◌≤◌, Bool, cond, ◌&&◌, List, [], ◌∷◌, length, take, drop, ◌==◌, nat_le, nat_lt, slice_index}
+use Rattle.std.specs.Prelude.{◌≡◌, ℕ, zero, suc, ◌+◌, ◌*◌, ◌≤◌, Bool, cond, ◌&&◌, List, [], ◌∷◌, length, take, drop, ◌==◌, nat_le, nat_lt, slice_index, Ok, Err}
 use Rattle.refusal.specs.declared.Refusal.TheVariants.{NoLesson}
-use Rattle.refusal.specs.declared.Checked.{Checked}
-use Rattle.refusal.specs.declared.Checked.TheVariants.{Accepted, Refused}
-use Rattle.little_endian.specs.Number.{from_little_endian}
+use Rattle.refusal.specs.Check.{Checked}
+use Rattle.little_endian.specs.Number.{from_little_endian, Bytes}
 use Rattle.lesson.specs.Lesson.{LessonEntry, is_kind, table_end}
 
 pub data Reading : Type 0 where
@@ -57,8 +56,8 @@ lesson_of file =
     cond (is_headed file) (read_from (slice_index file 1) 0 (table_end (slice_index file 1)) file (drop 2 file)) (no_lesson 0)
 
 abbrev pub reading_checked : Reading → Checked
-reading_checked (no_lesson i) = Refused (NoLesson i)
-reading_checked (lesson l) = Accepted
+reading_checked (no_lesson i) = Err (NoLesson i)
+reading_checked (lesson l) = Ok tt
 
 -- no entry where there is no lesson
 abbrev pub entries_of : Reading → List LessonEntry
@@ -87,3 +86,8 @@ entry_at file j = entry_of (row_offset (row_at file j)) file (row_at file j)
 pub record Located (file : List ℕ) (j : ℕ) : Type 0 where
   pub there : 2 + 11 * (j + 1) ≤ length file
   pub inside : row_offset (row_at file j) + row_length (row_at file j) ≤ length file
+
+-- the bytes of a lesson's file
+pub record OfLesson (file : List ℕ) : Type 0 where
+  pub accepted : reading_checked (lesson_of file) ≡ Ok tt
+  pub bytes : Bytes file

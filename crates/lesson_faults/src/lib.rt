@@ -4,19 +4,61 @@
 ghost use Rattle.std.specs.Prelude.{◌≡◌, ◌+◌, ◌*◌, ◌≤◌, length};
 ghost use Rattle.lesson.specs.Read.{offset_at};
 
-use output::Output;
+use lesson::{ROW, SIZE};
+use output::Count;
 use refusal::Refusal;
+use std::fmt;
 
-// The bytes of a file, at most.
-const SIZE: usize = 65536;
+// What is wrong with a file. A place is the byte where an entry starts in the table.
+#[derive(Clone, Copy)]
+enum Fault {
+    // The file has no version.
+    Short(usize),
+    Long,
+    Version(u8),
+    // The file ends before the entry does: its size, and how many entries the table has.
+    Missing(usize, u8),
+    // An entry's place, and its kind that is none.
+    Kind(usize, u8),
+    // An entry's place, where its body is said to be, and where it must be.
+    Offset(usize, u32, usize),
+    // The file does not end where the table of no entries does: its size.
+    Empty(usize),
+    // The file does not end where the last body does: that place, and its size.
+    End(usize, usize),
+}
 
-// The bytes of an entry in the table.
-const ROW: usize = 11;
-
-fn wide(byte: u8) -> usize
-    ensures { (result ≡ byte) × (result ≤ 255) }
-{
-    byte as usize
+impl fmt::Display for Fault {
+    fn fmt<W: fmt::Write>(&self, f: &mut fmt::Formatter<W>) -> fmt::Result {
+        match *self {
+            Fault::Short(size) => {
+                let bytes = Count(size as u64, "byte", "bytes");
+                write!(f, "the file has {bytes}, a lesson at least 2")
+            }
+            Fault::Long => write!(f, "the file has over {SIZE} bytes"),
+            Fault::Version(version) => write!(f, "the file's version is {version}, not 1"),
+            Fault::Missing(size, count) => {
+                let entries = Count(u64::from(count), "entry", "entries");
+                write!(
+                    f,
+                    "it is missing: the file ends at byte {size}, inside the table of {entries}"
+                )
+            }
+            Fault::Kind(place, kind) => write!(f, "at byte {place} its kind is {kind}, not 1 or 2"),
+            Fault::Offset(place, said, must) => write!(
+                f,
+                "at byte {place} its body is said to be at byte {said}, it must be at byte {must}"
+            ),
+            Fault::Empty(size) => write!(
+                f,
+                "a lesson of no entries ends at byte 2, the file at byte {size}"
+            ),
+            Fault::End(end, size) => write!(
+                f,
+                "the last body ends at byte {end}, the file at byte {size}"
+            ),
+        }
+    }
 }
 
 // Where the body of an entry must be: after the table and the bodies before it.
@@ -24,181 +66,72 @@ fn body_place(file: &[u8], entry: usize) -> usize
     requires { (2 + 11 * entry ≤ length file.now) × (entry ≤ 255) }
     ensures { result ≡ offset_at file.now entry }
 {
-    let mut offset: usize = 2 + ROW * wide(file[1]);
-    let mut i: usize = 0;
-    while i < entry {
-        offset = offset + (little_endian::read_u16(file, 2 + ROW * i + 9) as usize);
-        i = i + 1;
+    let mut offset = 2 + ROW * file[1] as usize;
+    for i in 0..entry {
+        offset += little_endian::read_u16(file, 2 + ROW * i + 9) as usize;
     }
     offset
 }
 
-// The size of a file that has no version, or too many bytes.
-fn put_size(rt: &impl Print, size: usize, page: &mut [u8], output: Output) -> Output
-    ensures { result.filled ≤ length page.old }
-{
-    if SIZE < size {
-        return output::put(rt, b"the file has over 65536 bytes", page, output);
-    }
-    let lead = output::put(rt, b"the file has ", page, output);
-    output::put_count(
-        rt,
-        size as u64,
-        b" byte, a lesson at least 2",
-        b" bytes, a lesson at least 2",
-        page,
-        lead,
-    )
-}
-
-// The file ends before the entry does.
-fn put_missing(
-    rt: &impl Print,
-    size: usize,
-    count: usize,
-    page: &mut [u8],
-    output: Output,
-) -> Output
-    ensures { result.filled ≤ length page.old }
-{
-    let ended = output::put_number(
-        rt,
-        b"it is missing: the file ends at byte ",
-        size as u64,
-        page,
-        output,
-    );
-    let lead = output::put(rt, b", inside the table of ", page, ended);
-    output::put_count(rt, count as u64, b" entry", b" entries", page, lead)
-}
-
 // An entry of a bad kind, or one whose body is not where it must be.
-fn put_row(rt: &impl Print, file: &[u8], entry: usize, page: &mut [u8], output: Output) -> Output
+fn row_fault(file: &[u8], entry: usize) -> Fault
     requires { (2 + 11 * entry + 11 ≤ length file.now) × (entry ≤ 255) }
-    ensures { result.filled ≤ length page.old }
 {
     let place = 2 + ROW * entry;
     let kind = file[place];
-    let placed = output::put_number(rt, b"at byte ", place as u64, page, output);
-    if (kind != 1) & (kind != 2) {
-        let told = output::put_number(rt, b" its kind is ", wide(kind) as u64, page, placed);
-        return output::put(rt, b", not 1 or 2", page, told);
+    if !lesson::is_kind(kind) {
+        return Fault::Kind(place, kind);
     }
-    let offset = little_endian::read_u32(file, place + 5);
-    let told = output::put_number(
-        rt,
-        b" its body is said to be at byte ",
-        offset as u64,
-        page,
-        placed,
-    );
-    output::put_number(
-        rt,
-        b", it must be at byte ",
-        body_place(file, entry) as u64,
-        page,
-        told,
+    Fault::Offset(
+        place,
+        little_endian::read_u32(file, place + 5),
+        body_place(file, entry),
     )
 }
 
-// The file does not end where the last body does or, with no entries, the table.
-fn put_end(rt: &impl Print, file: &[u8], count: usize, page: &mut [u8], output: Output) -> Output
-    requires { (2 + 11 * count ≤ length file.now) × (count ≤ 255) }
-    ensures { result.filled ≤ length page.old }
-{
-    if count == 0 {
-        return output::put_number(
-            rt,
-            b"a lesson of no entries ends at byte 2, the file at byte ",
-            file.len() as u64,
-            page,
-            output,
-        );
-    }
-    let end = body_place(file, count);
-    let told = output::put_number(rt, b"the last body ends at byte ", end as u64, page, output);
-    output::put_number(rt, b", the file at byte ", file.len() as u64, page, told)
-}
-
-// What is wrong with the table, or with the file's end.
-fn put_table(
-    rt: &impl Print,
-    file: &[u8],
-    count: usize,
-    entry: usize,
-    page: &mut [u8],
-    output: Output,
-) -> Output
-    requires { count ≤ 255 }
-    ensures { result.filled ≤ length page.old }
-{
+// What is wrong with the table of so many entries, or with the file's end.
+fn table_fault(file: &[u8], count: u8, entry: usize) -> Fault {
     let size = file.len();
-    if entry < count {
-        if size < 2 + ROW * entry + ROW {
-            return put_missing(rt, size, count, page, output);
-        }
-        return put_row(rt, file, entry, page, output);
+    let rows = count as usize;
+    if entry < rows && 2 + ROW * entry + ROW <= size {
+        return row_fault(file, entry);
     }
-    if size < 2 + ROW * count {
-        return put_missing(rt, size, count, page, output);
+    if entry < rows || size < 2 + ROW * rows {
+        return Fault::Missing(size, count);
     }
-    put_end(rt, file, count, page, output)
+    if count == 0 {
+        return Fault::Empty(size);
+    }
+    Fault::End(body_place(file, rows), size)
 }
 
 // What is wrong: the file's size or version, else its table or its end.
-fn put_reason(rt: &impl Print, file: &[u8], entry: usize, page: &mut [u8], output: Output) -> Output
-    ensures { result.filled ≤ length page.old }
-{
-    let size = file.len();
-    if size < 2 {
-        return put_size(rt, size, page, output);
+fn fault_at(file: &[u8], entry: usize) -> Fault {
+    match file {
+        _ if file.len() > SIZE => Fault::Long,
+        [lesson::VERSION, count, ..] => table_fault(file, *count, entry),
+        [version, _, ..] => Fault::Version(*version),
+        _ => Fault::Short(file.len()),
     }
-    if SIZE < size {
-        return put_size(rt, size, page, output);
-    }
-    let version = file[0];
-    if version != 1 {
-        let told = output::put_number(
-            rt,
-            b"the file's version is ",
-            wide(version) as u64,
-            page,
-            output,
-        );
-        return output::put(rt, b", not 1", page, told);
-    }
-    put_table(rt, file, wide(file[1]), entry, page, output)
 }
 
-// Which file it is, the refusal's number and the entry that it names.
-fn put_lead(
-    rt: &impl Print,
-    path: &[u8],
-    refusal: Refusal,
-    page: &mut [u8],
-    output: Output,
-) -> Output
-    ensures { result.filled ≤ length page.old }
-{
-    let number = wide(refusal.number()) as u64;
-    let named = output::put(rt, path, page, output);
-    let lead = output::put_number(rt, b" is no lesson: refused ", number, page, named);
-    output::put_number(rt, b" entry ", refusal.found() as u64, page, lead)
+// The refusal of a file that is no lesson: which file it is, the refusal's number, the entry that it names, and why.
+#[derive(Clone, Copy)]
+pub struct NoLesson<'a> {
+    pub path: &'a str,
+    pub file: &'a [u8],
+    pub refusal: Refusal,
 }
 
-// The refusal of a file that is no lesson, and why.
-pub fn put_refused(
-    rt: &impl Print,
-    path: &[u8],
-    file: &[u8],
-    refusal: Refusal,
-    page: &mut [u8],
-    output: Output,
-) -> Output
-    ensures { result.filled ≤ length page.old }
-{
-    let lead = put_lead(rt, path, refusal, page, output);
-    let begun = output::put(rt, b": ", page, lead);
-    let told = put_reason(rt, file, refusal.found(), page, begun);
-    output::put(rt, b"\n", page, told)
+impl<'a> fmt::Display for NoLesson<'a> {
+    fn fmt<W: fmt::Write>(&self, f: &mut fmt::Formatter<W>) -> fmt::Result {
+        let path = self.path;
+        let number = self.refusal.number();
+        let entry = self.refusal.found();
+        let fault = fault_at(self.file, entry);
+        writeln!(
+            f,
+            "{path} is no lesson: refused {number} entry {entry}: {fault}"
+        )
+    }
 }

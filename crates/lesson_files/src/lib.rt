@@ -1,249 +1,120 @@
 // Lessons in files: a file is read and played, and one is written from a script. What fails is told on standard error.
 #![tactic(auto)]
 
-ghost use Rattle.std.specs.Prelude.{◌≡◌, ◌≤◌, length};
-ghost use Rattle.refusal.specs.declared.Checked.TheVariants.{Accepted};
-ghost use Rattle.lesson.specs.Read.{lesson_of, reading_checked};
-ghost use Rattle.recorder.specs.Recording.{Fits};
+ghost use Rattle.std.specs.Prelude.{◌≤◌, length, IfOk};
 
-use lesson_writer::WriterReply;
+use files::Told;
+use lesson::Lesson;
+use lesson_faults::NoLesson;
 use output::Output;
 use recorder::Recording;
-use refusal::{Checked, Refusal};
-use session::Session;
+use session::{Line, Session};
+use std::fmt::Display;
 use std::io::Read;
 use std::rt::Files;
 
-// What is recorded of a script, and whether it is all of it.
-#[derive(Clone, Copy)]
-struct Recorded {
-    count: usize,
-    size: usize,
-    whole: bool,
-}
-
-fn empty() -> Output {
-    Output::begin()
-}
-
-// ---- a lesson is played
-
-// Says why a file is not played.
-fn tell_refused(err: &impl Print, path: &[u8], file: &[u8], refusal: Refusal) {
-    let mut page = [0u8; 65536];
-    let begun = output::put(err, b"max3420e: ", &mut page, empty());
-    let told = lesson_faults::put_refused(err, path, file, refusal, &mut page, begun);
-    output::tell(err, &page, told);
-}
-
-fn play(rt: &impl Print, err: &impl Print, path: &[u8], file: &[u8]) -> bool
-    requires { reading_checked (lesson_of file.now) ≡ Accepted }
-{
-    let mut page = [0u8; 65536];
-    let played = lesson_console::play(rt, path, file, &mut page, empty());
-    files::finish(rt, err, &page, played)
-}
-
-fn play_checked(rt: &impl Print, err: &impl Print, path: &[u8], file: &[u8]) -> bool {
-    match lesson::check(file) {
-        Checked::Refused(refusal) => {
-            tell_refused(err, path, file, refusal);
-            false
-        }
-        Checked::Accepted => play(rt, err, path, file),
-    }
-}
-
-// Plays what is read of a file. One byte more than a lesson has is read, so that a longer file is seen.
-fn replay_file(rt: &impl Print, err: &impl Print, path: &[u8], input: &mut impl Read) -> bool {
+// Plays the lesson of a file. One byte more than a lesson has is read, so that a longer file is seen.
+pub fn replay(rt: &(impl Files + Print), err: &impl Print, path: &[u8]) -> Result<(), Told> {
+    let (path, mut input) = files::open(rt, err, path)?;
     let mut file = [0u8; 65537];
-    let read = files::read_whole(err, input, path, &mut file);
-    if read.failed {
-        return false;
-    }
-    let length = read.length;
-    play_checked(rt, err, path, &file[..length])
+    let length = files::read_whole(&mut input, &mut file).map_err(|error| files::fail_read(
+        err, path, error,
+    ))?;
+    let file = &file[..length];
+    let lesson = Lesson::new(file).map_err(|refusal| {
+        let why = NoLesson {
+            path,
+            file,
+            refusal,
+        };
+        files::tell(err, format_args!("max3420e: {why}"))
+    })?;
+    let mut out: Output<_, 65536> = Output::new(rt);
+    let _ = lesson_console::play(path, &lesson, &mut out);
+    files::finish(err, &mut out)
 }
 
-// Plays the lesson of a file, and answers whether that went well.
-pub fn replay(rt: &(impl Files + Print), err: &impl Print, path: &[u8]) -> bool {
-    match files::open(rt, err, path) {
-        Some(mut input) => replay_file(rt, err, path, &mut input),
-        None => false,
-    }
+// Says where a script is wrong, and why.
+fn tell_wrong<D: Display + Drop>(err: &impl Print, script: &str, number: u64, why: D) -> Told {
+    files::tell(
+        err,
+        format_args!("max3420e: {script} line {number}: {why}\n"),
+    )
 }
 
-// ---- a lesson is recorded
-
-// Where a script is wrong.
-fn put_place(err: &impl Print, path: &[u8], number: u64, page: &mut [u8]) -> Output
-    ensures { result.filled ≤ length page.old }
-{
-    let begun = output::put(err, b"max3420e: ", page, empty());
-    let named = output::put(err, path, page, begun);
-    let placed = output::put_number(err, b" line ", number, page, named);
-    output::put(err, b": ", page, placed)
-}
-
-fn tell_wrong(err: &impl Print, path: &[u8], number: u64, recording: Recording, line: &[u8]) {
-    let mut page = [0u8; 65536];
-    let wrong = recording.wrong;
-    let placed = put_place(err, path, number, &mut page);
-    let told = recorder::put_wrong(err, wrong, line, &mut page, placed);
-    let ended = output::put(err, b"\n", &mut page, told);
-    output::tell(err, &page, ended);
-}
-
-fn tell_long(err: &impl Print, path: &[u8], number: u64) {
-    let mut page = [0u8; 65536];
-    let placed = put_place(err, path, number, &mut page);
-    let told = output::put(err, b"a line has at most 16384 bytes\n", &mut page, placed);
-    output::tell(err, &page, told);
-}
-
-fn stop(recording: Recording, whole: bool) -> Recorded
-    requires { Fits recording }
-    ensures { (result.count ≤ 255) × (result.size ≤ 65536) }
-{
-    Recorded {
-        count: recording.count,
-        size: recording.size,
-        whole,
-    }
-}
-
-// Takes the lines of a script to its end, or to the first that is wrong. The turns are counted down as the console's are.
-fn record_lines(
-    rt: &impl Print,
+fn record_line(
     err: &impl Print,
-    input: &mut impl Read,
-    path: &[u8],
-    kinds: &mut [u8],
-    ticks: &mut [u32],
-    lengths: &mut [u16],
-    bodies: &mut [u8],
-) -> Recorded
-    ensures { (result.count ≤ 255) × (result.size ≤ 65536) }
+    script: &str,
+    line: Line<'_>,
+    bytes: &mut [u8],
+    recording: &mut Recording,
+) -> Result<(), Told>
+    requires { IfOk line.text (λ text. length text.now ≤ length bytes.old) }
 {
-    let mut chunk = [0u8; 65536];
-    let mut line = [0u8; 16386];
+    let number = line.number;
+    match line.text {
+        Ok(text) => recording
+            .take_line(text, bytes)
+            .map_err(|wrong| tell_wrong(err, script, number, wrong)),
+        Err(long) => Err(tell_wrong(err, script, number, long)),
+    }
+}
+
+// Records the lines of a script to its end, or to the first that is wrong. A proved loop has to end: no run uses its turns up.
+fn record_lines<R: Read + Drop>(
+    err: &impl Print,
+    script: &str,
+    input: R,
+) -> Result<Recording, Told> {
     let mut bytes = [0u8; 16384];
-    // Nothing is answered: what the session puts here is not written.
-    let mut page = [0u8; 65536];
-    let mut session = Session::begin();
+    let mut session = Session::begin(input);
     let mut recording = Recording::begin();
-    let mut turns = u64::MAX;
-    while 0 < turns {
-        turns -= 1;
-        session = session::next(
-            rt, err, session, input, path, &mut chunk, &mut line, &mut page,
-        );
-        if session.over {
-            return stop(recording, !session.broken);
-        }
-        let number = session.number;
-        if session.long {
-            tell_long(err, path, number);
-            return stop(recording, false);
-        }
-        let length = session.length;
-        recording = recorder::take_line(
-            recording,
-            &line[..length],
-            &mut bytes,
-            kinds,
-            ticks,
-            lengths,
-            bodies,
-        );
-        if recording.is_wrong() {
-            tell_wrong(err, path, number, recording, &line[..length]);
-            return stop(recording, false);
+    let mut read = Ok(());
+    for _ in 0..u64::MAX {
+        match session.line() {
+            Some(line) => record_line(err, script, line, &mut bytes, &mut recording)?,
+            None => match session.read() {
+                Some(Ok(())) => {}
+                Some(Err(error)) => read = Err(files::fail_read(err, script, error)),
+                None => break,
+            },
         }
     }
-    stop(recording, false)
+    read?;
+    Ok(recording)
 }
 
-// Says what is recorded.
-fn tell_recorded(
-    rt: &impl Print,
-    err: &impl Print,
-    path: &[u8],
-    count: usize,
-    size: usize,
-) -> bool {
-    let mut page = [0u8; 65536];
-    let told = lesson_console::put_recorded(rt, path, count, size, &mut page, empty());
-    files::finish(rt, err, &page, told)
-}
-
-// Writes the file of a lesson. What was recorded is one, so that nothing is refused.
+// Writes the file of a lesson, and says what was recorded. It is a lesson, so that nothing is refused.
 fn write_lesson(
     rt: &(impl Files + Print),
     err: &impl Print,
     path: &[u8],
-    kinds: &[u8],
-    ticks: &[u32],
-    lengths: &[u16],
-    bodies: &[u8],
-) -> bool {
+    recording: &Recording,
+) -> Result<(), Told> {
     let mut file = [0u8; 65536];
+    let kinds = recording.kinds.as_slice();
+    let ticks = recording.ticks.as_slice();
+    let lengths = recording.lengths.as_slice();
+    let bodies = recording.bodies.as_slice();
     match lesson_writer::write(kinds, ticks, lengths, bodies, &mut file) {
-        WriterReply::Refused(_refusal) => {
-            let _ = err.write_all(b"max3420e: what was recorded is no lesson\n");
-            false
+        Ok(size) => {
+            let name = files::overwrite(rt, err, path, &file[..size])?;
+            let mut out: Output<_, 65536> = Output::new(rt);
+            let _ = lesson_console::write_recorded(name, kinds.len(), size, &mut out);
+            files::finish(err, &mut out)
         }
-        WriterReply::Written(size) => {
-            if files::overwrite(rt, err, path, &file[..size]) {
-                return tell_recorded(rt, err, path, kinds.len(), size);
-            }
-            false
-        }
+        Err(_) => Err(files::tell(err, "max3420e: what was recorded is no lesson\n")),
     }
 }
 
-// Writes the lesson of a script that is read to a file, or nothing where the script is wrong.
-fn record_file(
+// Writes the lesson of a script to a file, or nothing where the script is wrong.
+pub fn record(
     rt: &(impl Files + Print),
     err: &impl Print,
     script: &[u8],
-    input: &mut impl Read,
     path: &[u8],
-) -> bool {
-    let mut kinds = [0u8; 255];
-    let mut ticks = [0u32; 255];
-    let mut lengths = [0u16; 255];
-    let mut bodies = [0u8; 65536];
-    let recorded = record_lines(
-        rt,
-        err,
-        input,
-        script,
-        &mut kinds,
-        &mut ticks,
-        &mut lengths,
-        &mut bodies,
-    );
-    if recorded.whole {
-        let count = recorded.count;
-        let size = recorded.size;
-        return write_lesson(
-            rt,
-            err,
-            path,
-            &kinds[..count],
-            &ticks[..count],
-            &lengths[..count],
-            &bodies[..size],
-        );
-    }
-    false
-}
-
-// Writes the lesson of a script to a file, and answers whether that went well.
-pub fn record(rt: &(impl Files + Print), err: &impl Print, script: &[u8], path: &[u8]) -> bool {
-    match files::open(rt, err, script) {
-        Some(mut input) => record_file(rt, err, script, &mut input, path),
-        None => false,
-    }
+) -> Result<(), Told> {
+    let (script, input) = files::open(rt, err, script)?;
+    let recording = record_lines(err, script, input)?;
+    write_lesson(rt, err, path, &recording)
 }

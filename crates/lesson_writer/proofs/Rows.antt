@@ -1,5 +1,7 @@
 -- The parts of a lesson, entry by entry: the row of the next entry and the rows after it; what the loops of the writer keep.
-use mathlib.Core.Path.{◌≡◌, sym, ap, ◌∙◌}
+use Rattle.std.specs.List.{sum}
+use Rattle.std.proofs.lemmas.List.Sums.{sum_by-cons}
+use mathlib.Core.Path.{◌≡◌, refl, sym, ap, ◌∙◌}
 use mathlib.Core.Bool.{Bool, ◌&&◌}
 use mathlib.Core.List.{List, [], ◌∷◌, ◌++◌}
 use Prim.Native.Nat.{ℕ, ◌+◌, ◌*◌, ◌≤◌, ◌<◌}
@@ -25,9 +27,14 @@ pub total_next : (i : ℕ) (ns : List ℕ) → i < length ns → total (drop i n
 unfolding total
 total_next i ns h = rw (add-one, drop-cons ns i 0)
 
+-- the total is std's sum
+pub total_sum : (ns : List ℕ) → sum ns ≡ total ns
+unfolding total
+total_sum [] = refl
+total_sum (n ∷ ns) = sum_by-cons (λ (x : ℕ). x) n ns ∙ ap (λ (k : ℕ). n + k) (total_sum ns)
+
 pub kinds_next : (i : ℕ) (ks : List ℕ) (t : Bool) → i < length ks → is_kind (get_or ks i 0) ≡ t
     → all_kinds (drop i ks) ≡ (t && all_kinds (drop (i + 1) ks))
-unfolding all_kinds
 kinds_next i ks t h e = rw (add-one, drop-cons ks i 0, e)
 
 -- ---- a row, field by field
@@ -47,20 +54,21 @@ put_row d d₁ d₂ d₃ p k t o n e₁ e₂ e₃ =
     two : d₂ ≡ sets d p (k ∷ little_endian 4 t ++ little_endian 4 o)
     two = e₂ ∙ ap (λ (l : List ℕ). sets l (p + 5) (little_endian 4 o)) one ∙ put_put (k ∷ little_endian 4 t) (little_endian 4 o) d p
 
--- ---- the loop over the table: row i is next, at a place of the buffer d, its body at an offset; d₀ and o₀ were given
+-- ---- the loop over the table: row i is next, at its place in the buffer d, its body at an offset; d₀ and o₀ were given
 
-pub record Rows (ks ts ns : List ℕ) (o₀ : ℕ) (d₀ d : List ℕ) (i place offset : ℕ) : Type 0 where
-  pub within : i ≤ length ks
-  pub next : place ≡ 2 + 11 * i
+pub record Rows (ks ts ns : List ℕ) (o₀ : ℕ) (d₀ d : List ℕ) (i offset : ℕ) : Type 0 where
   pub sized : length d ≡ length d₀
   pub small : offset + total (drop i ns) ≤ 65536
-  pub same : sets d place (rows offset (drop i ks) (drop i ts) (drop i ns)) ≡ sets d₀ 2 (rows o₀ ks ts ns)
+  pub same : sets d (2 + 11 * i) (rows offset (drop i ks) (drop i ts) (drop i ns)) ≡ sets d₀ 2 (rows o₀ ks ts ns)
 
-pub row_put : (ks ts ns d : List ℕ) (i place offset : ℕ) → i < length ks → length ts ≡ length ks → length ns ≡ length ks
-    → sets (sets d place (row (get_or ks i 0) (get_or ts i 0) offset (get_or ns i 0))) (place + 11)
+pub row_put : (ks ts ns d : List ℕ) (i offset : ℕ) → i < length ks → length ts ≡ length ks → length ns ≡ length ks
+    → sets (sets d (2 + 11 * i) (row (get_or ks i 0) (get_or ts i 0) offset (get_or ns i 0))) (2 + 11 * (i + 1))
     (rows (offset + get_or ns i 0) (drop (i + 1) ks) (drop (i + 1) ts) (drop (i + 1) ns))
-    ≡ sets d place (rows offset (drop i ks) (drop i ts) (drop i ns))
-row_put ks ts ns d i place offset h a b =
-    put_put (row (get_or ks i 0) (get_or ts i 0) offset (get_or ns i 0))
-    (rows (offset + get_or ns i 0) (drop (i + 1) ks) (drop (i + 1) ts) (drop (i + 1) ns)) d place
-    ∙ ap (sets d place) (sym (rows_next i offset ks ts ns h (omega arith) (omega arith)))
+    ≡ sets d (2 + 11 * i) (rows offset (drop i ks) (drop i ts) (drop i ns))
+row_put ks ts ns d i offset h a b =
+    let here : List ℕ = row (get_or ks i 0) (get_or ts i 0) offset (get_or ns i 0) in
+    let rest : List ℕ = rows (offset + get_or ns i 0) (drop (i + 1) ks) (drop (i + 1) ts) (drop (i + 1) ns) in
+    let after : 2 + 11 * (i + 1) ≡ 2 + 11 * i + 11 = omega arith in
+    ap (λ (p : ℕ). sets (sets d (2 + 11 * i) here) p rest) after
+    ∙ put_put here rest d (2 + 11 * i)
+    ∙ ap (sets d (2 + 11 * i)) (sym (rows_next i offset ks ts ns h (omega arith) (omega arith)))

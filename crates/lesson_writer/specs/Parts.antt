@@ -1,15 +1,13 @@
 -- A lesson as it is lent to the writer: the entries' kinds ks, their ticks ts, the lengths ns of their bodies, and the bodies bs one after
 -- the other; what the writer replies, and what it leaves in the lent buffer (document 02, Ask 5).
-use Rattle.std.specs.Prelude.{Bool, true, not, ◌&&◌, List, [], ◌∷◌, ◌++◌, ℕ, ◌+◌, eqb, leb, ltb, length, take, drop}
+use Rattle.std.specs.List.{list_all}
+use Rattle.std.specs.Prelude.{Bool, not, ◌&&◌, List, [], ◌∷◌, ◌++◌, ℕ, ◌+◌, eqb, leb, ltb, length, take, drop, Result, Ok, Err}
 use Rattle.refusal.specs.declared.Refusal.{Refusal}
 use Rattle.refusal.specs.declared.Refusal.TheVariants.{ShortBuffer, NoLesson}
-use Rattle.refusal.specs.declared.Checked.{Checked}
-use Rattle.refusal.specs.declared.Checked.TheVariants as checked
+use Rattle.refusal.specs.Check.{Checked}
 use Rattle.refusal.specs.Check.{check}
 use Rattle.model.specs.Reply.{lent}
 use Rattle.lesson.specs.Lesson.{LessonEntry, is_kind, row, table_end, file_of}
-use Rattle.lesson_writer.specs.declared.WriterReply.{WriterReply}
-use Rattle.lesson_writer.specs.declared.WriterReply.TheVariants.{Refused, Written}
 
 -- the lesson that the parts are
 unfoldable pub lesson_from : List ℕ → List ℕ → List ℕ → List ℕ → List LessonEntry
@@ -29,9 +27,8 @@ unfoldable pub total : List ℕ → ℕ
 total [] = 0
 total (n ∷ ns) = n + total ns
 
-unfoldable pub all_kinds : List ℕ → Bool
-all_kinds [] = true
-all_kinds (k ∷ ks) = is_kind k && all_kinds ks
+abbrev pub all_kinds : List ℕ → Bool
+all_kinds ks = list_all is_kind ks
 
 -- ---- the writer
 
@@ -54,16 +51,16 @@ writer_grounds ks ts ns bs room = (not (has_file ks ts ns bs), NoLesson 0) ∷ (
 abbrev pub writer_checked : List ℕ → List ℕ → List ℕ → List ℕ → ℕ → Checked
 writer_checked ks ts ns bs room = check (writer_grounds ks ts ns bs room)
 
-abbrev pub writer_reply_of : Checked → ℕ → WriterReply
-writer_reply_of checked.Accepted n = Written n
-writer_reply_of (checked.Refused r) n = Refused r
+abbrev pub writer_reply_of : Checked → ℕ → Result ℕ Refusal
+writer_reply_of (Ok tt) n = Ok n
+writer_reply_of (Err r) n = Err r
 
 abbrev pub writer_buffer_of : Checked → List ℕ → List ℕ → List ℕ
-writer_buffer_of checked.Accepted file buffer = lent file buffer
-writer_buffer_of (checked.Refused r) file buffer = buffer
+writer_buffer_of (Ok tt) file buffer = lent file buffer
+writer_buffer_of (Err r) file buffer = buffer
 
 -- the refusal, or how many bytes the file has
-abbrev pub writer_reply : List ℕ → List ℕ → List ℕ → List ℕ → ℕ → WriterReply
+abbrev pub writer_reply : List ℕ → List ℕ → List ℕ → List ℕ → ℕ → Result ℕ Refusal
 writer_reply ks ts ns bs room = writer_reply_of (writer_checked ks ts ns bs room) (size_of ks bs)
 
 -- the lent buffer after it: refused, as given; else the file, and the rest as given
@@ -86,12 +83,7 @@ lengths_of (e ∷ es) = length e.body ∷ lengths_of es
 
 -- ---- the reply in numbers
 
--- what it tells of the check
-abbrev pub writer_tells : WriterReply → Checked
-writer_tells (Refused r) = checked.Refused r
-writer_tells (Written n) = checked.Accepted
-
 -- the bytes of the file; 0 where it is refused
-abbrev pub writer_count : WriterReply → ℕ
-writer_count (Refused r) = 0
-writer_count (Written n) = n
+abbrev pub writer_count : Result ℕ Refusal → ℕ
+writer_count (Err r) = 0
+writer_count (Ok n) = n

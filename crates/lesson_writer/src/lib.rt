@@ -1,5 +1,5 @@
 // Writes the file of a lesson (document 02, Ask 5). The lesson is lent in parts: the entries' kinds, ticks and body lengths, and the bodies
-// one after the other.
+// one after the other. These are slices side by side, and kinds are bytes, since C lends them so (max3420e_write_lesson).
 #![tactic(auto)]
 
 ghost use Rattle.std.specs.Prelude.{◌≡◌, ◌+◌, ◌≤◌, length};
@@ -8,24 +8,8 @@ ghost use Rattle.lesson.specs.Lesson.{row, file_of};
 ghost use Rattle.lesson_writer.specs.Parts.{lesson_from, rows, total, all_kinds, has_file, writer_reply, writer_buffer};
 ghost use Rattle.lesson_writer.specs.Room.{TableRoom, FileRoom};
 
+use lesson::{ENTRIES, ROW, SIZE, VERSION};
 use refusal::Refusal;
-
-// What the writer replies: a refusal, or how many bytes the file has.
-#[derive(Clone, Copy)]
-pub enum WriterReply {
-    Refused(Refusal),
-    Written(usize),
-}
-
-const VERSION: u8 = 1;
-
-// The entries of a lesson, and the bytes of its file, at most.
-const ENTRIES: usize = 255;
-
-const SIZE: usize = 65536;
-
-// The bytes of an entry in the table.
-const ROW: usize = 11;
 
 fn put_row(file: &mut [u8], place: usize, kind: u8, tick: u32, offset: u32, size: u16)
     requires { place + 11 ≤ length file.old }
@@ -37,51 +21,37 @@ fn put_row(file: &mut [u8], place: usize, kind: u8, tick: u32, offset: u32, size
     little_endian::put_u16(file, place + 9, size);
 }
 
-// The table, the first body at the given offset.
+// The table, the first body at the given offset. A row's place needs its index, by which its tick and its length are found too.
 fn put_table(kinds: &[u8], ticks: &[u32], lengths: &[u16], start: usize, file: &mut [u8])
     requires { TableRoom kinds.now ticks.now lengths.now start file.old }
     ensures { file.new
         ≡ sets file.old 2 (rows start kinds.now ticks.now lengths.now) }
 {
-    let mut i: usize = 0;
-    let mut place: usize = 2;
-    let mut offset: usize = start;
-    while i < kinds.len() {
-        let size = lengths[i];
-        put_row(file, place, kinds[i], ticks[i], offset as u32, size);
-        offset = offset + (size as usize);
-        place = place + ROW;
-        i = i + 1;
+    let mut offset = start;
+    for (i, kind) in kinds.iter().enumerate() {
+        put_row(
+            file,
+            2 + ROW * i,
+            *kind,
+            ticks[i],
+            offset as u32,
+            lengths[i],
+        );
+        offset += lengths[i] as usize;
     }
 }
 
-#[tactic(auto, unfolding(crate::specs::Parts::all_kinds))]
 fn all_kinds(kinds: &[u8]) -> bool
     ensures { result ≡ all_kinds kinds.now }
 {
-    let mut i: usize = 0;
-    while i < kinds.len() {
-        let kind = kinds[i];
-        if !((kind == 1) | (kind == 2)) {
-            return false;
-        }
-        i = i + 1;
-    }
-    true
+    kinds.iter().all(|kind| lesson::is_kind(*kind))
 }
 
-#[tactic(auto, unfolding(crate::specs::Parts::total))]
 fn sum(lengths: &[u16]) -> usize
     requires { length lengths.now ≤ 255 }
     ensures { result ≡ total lengths.now }
 {
-    let mut i: usize = 0;
-    let mut found: usize = 0;
-    while i < lengths.len() {
-        found = found + (lengths[i] as usize);
-        i = i + 1;
-    }
-    found
+    lengths.iter().map(|size| *size as usize).sum()
 }
 
 #[tactic(auto, unfolding(crate::specs::Parts::has_file))]
@@ -89,22 +59,12 @@ fn has_file(kinds: &[u8], ticks: &[u32], lengths: &[u16], bodies: &[u8]) -> bool
     ensures { result ≡ has_file kinds.now ticks.now lengths.now bodies.now }
 {
     let n = kinds.len();
-    if ENTRIES < n {
-        return false;
-    }
-    if SIZE - (2 + ROW * n) < bodies.len() {
-        return false;
-    }
-    if ticks.len() != n {
-        return false;
-    }
-    if lengths.len() != n {
-        return false;
-    }
-    if sum(lengths) != bodies.len() {
-        return false;
-    }
-    all_kinds(kinds)
+    n <= ENTRIES
+        && 2 + ROW * n + bodies.len() <= SIZE
+        && ticks.len() == n
+        && lengths.len() == n
+        && sum(lengths) == bodies.len()
+        && all_kinds(kinds)
 }
 
 // The whole file, at the start of the buffer.
@@ -128,19 +88,19 @@ pub fn write(
     lengths: &[u16],
     bodies: &[u8],
     file: &mut [u8],
-) -> WriterReply
+) -> Result<usize, Refusal>
     ensures { (result ≡ writer_reply kinds.now ticks.now lengths.now bodies.now
         (length file.old))
         × (file.new
         ≡ writer_buffer kinds.now ticks.now lengths.now bodies.now file.old) }
 {
     if !has_file(kinds, ticks, lengths, bodies) {
-        return WriterReply::Refused(Refusal::NoLesson(0));
+        return Err(Refusal::NoLesson(0));
     }
     let size = 2 + ROW * kinds.len() + bodies.len();
     if file.len() < size {
-        return WriterReply::Refused(Refusal::ShortBuffer);
+        return Err(Refusal::ShortBuffer);
     }
     put_file(kinds, ticks, lengths, bodies, file);
-    WriterReply::Written(size)
+    Ok(size)
 }

@@ -2,10 +2,9 @@
 use mathlib.Core.Path.{◌≡◌, refl, ap, ap₂, ◌∙◌}
 use mathlib.Core.List.{List, [], ◌∷◌, ◌++◌}
 use Prim.Native.Nat.{ℕ, zero, suc, ◌+◌, ◌*◌, ◌/◌, ◌%◌, ◌^◌, ◌≤◌, ◌<◌}
-use native.Mathlib.Nat.{pow-suc, add-zero}
+use native.Mathlib.Nat.{pow-suc}
 use native.Mathlib.Omega.{arith}
-use lib.ListN.{length, get_or, take, drop}
-use lib.Seq.{get_or-drop, drop-drop}
+use lib.ListN.{length, take}
 use Rattle.little_endian.specs.Number.{little_endian, from_little_endian, Bytes}
 
 pub little_endian_length : (k n : ℕ) → length (little_endian k n) ≡ k
@@ -32,17 +31,3 @@ writes_back (suc k) (x ∷ xs) h l =
     let low : (x + from_little_endian k xs * 256) % 256 ≡ x = omega arith in
     let high : (x + from_little_endian k xs * 256) / 256 ≡ from_little_endian k xs = omega arith in
     ap₂ (λ (y : ℕ) (ys : List ℕ). y ∷ ys) low (ap (little_endian k) high ∙ writes_back k xs (λ i. h (suc i)) (omega arith))
-
--- ---- numbers at a place of a list
-
-pub two_at : (at : ℕ) (xs : List ℕ) → from_little_endian 2 (drop at xs) ≡ get_or xs at 0 + get_or xs (at + 1) 0 * 256
-two_at at xs = simp (get_or-drop, drop-drop, add-zero)
-
-halves : (xs : List ℕ) → from_little_endian 4 xs ≡ from_little_endian 2 xs + from_little_endian 2 (drop 1 (drop 1 xs)) * 65536
-halves xs = omega arith
-
-pub four_at : (at : ℕ) (xs : List ℕ)
-    → from_little_endian 4 (drop at xs) ≡ from_little_endian 2 (drop at xs) + from_little_endian 2 (drop (at + 2) xs) * 65536
-four_at at xs =
-    halves (drop at xs) ∙ ap (λ (ys : List ℕ). from_little_endian 2 (drop at xs) + from_little_endian 2 ys * 65536)
-    (drop-drop 1 1 (drop at xs) ∙ drop-drop 2 at xs)

@@ -1,13 +1,11 @@
 -- Runs of bytes that are put one after the other.
-use mathlib.Core.Path.{◌≡◌, sym, ap, ◌∙◌}
+use mathlib.Core.Path.{◌≡◌, ap, ◌∙◌}
 use mathlib.Core.List.{List, [], ◌∷◌, ◌++◌}
-use Prim.Native.Nat.{ℕ, suc, ◌+◌, ◌/◌, ◌%◌, ◌^◌, ◌≤◌, ◌<◌}
+use Prim.Native.Nat.{ℕ, suc, ◌+◌, ◌≤◌}
 use native.Mathlib.Nat.{add-zero}
 use native.Mathlib.Omega.{arith}
-use lib.Pow.{field, shr-shr}
 use lib.ListN.{length, set, drop}
 use lib.Seq.{sets, sets-eq}
-use Rattle.little_endian.specs.Number.{little_endian}
 
 -- a run and the run after it are one run
 pub put_put : (vs ws xs : List ℕ) (i : ℕ) → sets (sets xs i vs) (i + length vs) ws ≡ sets xs i (vs ++ ws)
@@ -21,16 +19,3 @@ pub put_first : (vs xs : List ℕ) → length vs ≤ length xs → sets xs 0 vs 
 put_first vs xs h =
     let none : 0 + length vs ≡ length vs = omega arith in
     sets-eq vs xs 0 (omega arith) ∙ ap (λ (k : ℕ). vs ++ drop k xs) none
-
--- ---- two bytes, four bytes
-
-pub low_high : (n : ℕ) → n < 65536 → n % 256 ∷ n / 256 ∷ [] ≡ little_endian 2 n
-low_high n h = let e : n / 256 ≡ n / 256 % 256 = omega arith in ap (λ (m : ℕ). n % 256 ∷ m ∷ []) e
-
-pub halves : (n : ℕ) → n < 2 ^ 32 → little_endian 2 (n % 65536) ++ little_endian 2 (n / 65536) ≡ little_endian 4 n
-halves n h =
-    let a : n % 65536 % 256 ≡ n % 256 = omega arith in
-    let f : n % 65536 / 256 ≡ n / 256 % 256 = field n 8 8 in
-    let b : n % 65536 / 256 % 256 ≡ n / 256 % 256 = omega arith in
-    let g : n / 65536 ≡ n / 256 / 256 = sym (shr-shr n 8 8) in
-    cc

@@ -2,265 +2,190 @@
 // `max3420e [FILE]`, `max3420e classroom [FILE]`, `max3420e replay FILE`, `max3420e record SCRIPT FILE`.
 #![tactic(auto)]
 
+ghost use Rattle.std.specs.Prelude.{◌≤◌, length};
+
 use console::Console;
+use files::Told;
+use output::Output;
 use roster::Roster;
 use session::Session;
 use std::env::FillError;
-use std::io;
+use std::fmt::Write;
 use std::io::{IsTerminal, Read};
 use std::process::ExitCode;
 use std::rt::{Env, Files};
-
-// What the first argument asks for.
-#[derive(Clone, Copy)]
-enum Asked {
-    Console,
-    Classroom,
-    Replay,
-    Record,
-}
+use std::{fmt, io};
 
 // The system's number for a name that is too long.
 const NAME_TOO_LONG: i32 = 36;
 
-const USAGE: [u8; 218] =
-    *b"max3420e: one file at most: max3420e [FILE], or max3420e classroom [FILE]; \
+const USAGE: &str = "max3420e: one file at most: max3420e [FILE], or max3420e classroom [FILE]; \
     a lesson: max3420e replay FILE, or max3420e record SCRIPT FILE; \
     a file called classroom, replay or record is ./classroom, ./replay or ./record\n";
 
-// What stands on the page before the first line, where a person types.
-fn greet(rt: &impl Print, session: Session, taught: bool, page: &mut [u8]) -> Session {
-    let mut next = session;
-    if taught {
-        let greeted = messages::put_classroom_greeting(rt, page, session.output);
-        next.output = greeted;
-        return next;
+// What takes the lines that are typed, and answers them.
+trait Listener: Drop {
+    // What is said before the first line, where a person types.
+    const GREETING: &'static str;
+
+    // The lent bytes are for what the line names.
+    fn take_line<W: fmt::Write>(
+        &mut self,
+        number: u64,
+        line: &[u8],
+        bytes: &mut [u8],
+        out: &mut W,
+    ) -> fmt::Result
+        requires { length line.now ≤ length bytes.old };
+}
+
+impl Listener for Console {
+    const GREETING: &'static str = messages::GREETING;
+
+    fn take_line<W: fmt::Write>(
+        &mut self,
+        number: u64,
+        line: &[u8],
+        bytes: &mut [u8],
+        out: &mut W,
+    ) -> fmt::Result {
+        self.take_line(number, line, bytes, out)
     }
-    let greeted = messages::put_greeting(rt, page, session.output);
-    next.output = greeted;
-    next
 }
 
-fn begin(rt: &impl Print, taught: bool, typed: bool, page: &mut [u8]) -> Session {
-    let session = Session::begin();
-    if typed {
-        return greet(rt, session, taught, page);
+impl Listener for Roster {
+    const GREETING: &'static str = messages::CLASSROOM_GREETING;
+
+    fn take_line<W: fmt::Write>(
+        &mut self,
+        number: u64,
+        line: &[u8],
+        bytes: &mut [u8],
+        out: &mut W,
+    ) -> fmt::Result {
+        classroom_console::take_line(self, number, line, bytes, out)
     }
-    session
 }
 
-// Whether all was read and written.
-fn went_well(session: Session) -> bool {
-    let output = session.output;
-    !session.broken & !output.failed
-}
-
-// A proved loop has to end, and nothing says that a file does. So the loop counts its turns down, from a number that no run uses up. Both
-// consoles are held side by side, so that one that is not used is not copied.
-fn run(
+// Takes the lines of an input to its end. What waits on the page is written before each read, so that who types sees it. A proved loop
+// has to end, and nothing says that a file does: no run uses its turns up.
+fn run<L: Listener, R: Read + Drop>(
     rt: &impl Print,
     err: &impl Print,
-    input: &mut impl Read,
-    path: &[u8],
-    taught: bool,
+    mut listener: L,
+    input: R,
+    path: &str,
     typed: bool,
-) -> bool {
-    let mut chunk = [0u8; 65536];
-    let mut line = [0u8; 16386];
+) -> Result<(), Told> {
     let mut bytes = [0u8; 16384];
-    let mut page = [0u8; 65536];
-    let mut session = begin(rt, taught, typed, &mut page);
-    let mut console = Console::power_on();
-    let mut roster = Roster::start();
-    let mut turns = u64::MAX;
-    while 0 < turns {
-        turns -= 1;
-        session = session::next(
-            rt, err, session, input, path, &mut chunk, &mut line, &mut page,
-        );
-        if session.over {
-            return went_well(session);
-        }
-        let number = session.number;
-        let length = session.length;
-        let output = session.output;
-        if taught {
-            roster = classroom_console::take_line(
-                rt,
-                roster,
-                number,
-                &line[..length],
-                &mut bytes,
-                &mut page,
-                output,
-            );
-            let answered = roster.output;
-            session.output = answered;
+    let mut out: Output<_, 65536> = Output::new(rt);
+    let mut session = Session::begin(input);
+    let mut read = Ok(());
+    if typed {
+        let _ = out.write_str(L::GREETING);
+    }
+    for _ in 0..u64::MAX {
+        if let Some(line) = session.line() {
+            let number = line.number;
+            let _ = match line.text {
+                Ok(text) => listener.take_line(number, text, &mut bytes, &mut out),
+                Err(long) => writeln!(out, "{number} error: {long}"),
+            };
             continue;
         }
-        console = console::take_line(
-            rt,
-            console,
-            number,
-            &line[..length],
-            &mut bytes,
-            &mut page,
-            output,
-        );
-        let answered = console.output;
-        session.output = answered;
+        files::finish(err, &mut out)?;
+        match session.read() {
+            Some(Ok(())) => {}
+            Some(Err(error)) => read = Err(files::fail_read(err, path, error)),
+            None => break,
+        }
     }
-    went_well(session)
-}
-
-fn tell_usage(err: &impl Print) {
-    let _ = err.write_all(&USAGE);
-}
-
-// The only thing that can be wrong with a name that is there.
-fn tell_name(err: &impl Print) {
-    output::tell_failure(
-        err,
-        b"max3420e: the file's name",
-        io::Error::from_raw_os_error(NAME_TOO_LONG),
-    );
+    read
 }
 
 // Whether there is such an argument.
-fn is_given(rt: &impl Env, argument: usize) -> bool {
-    let mut word = [0u8; 1];
-    match rt.arg(argument, &mut word) {
-        Err(FillError::NotPresent) => false,
-        _ => true,
+fn is_given(rt: &impl Env, place: usize) -> bool {
+    !matches!(rt.arg(place, &mut [0u8; 1]), Err(FillError::NotPresent))
+}
+
+// The argument at a place, a file's name. The only thing that can be wrong with one that is there is its length.
+fn name_at<'a>(
+    rt: &impl Env,
+    err: &impl Print,
+    place: usize,
+    room: &'a mut [u8; 4096],
+) -> Result<&'a [u8], Told> {
+    match rt.arg(place, room) {
+        Ok(length) => Ok(&room[..length]),
+        Err(_) => {
+            let error = io::Error::from_raw_os_error(NAME_TOO_LONG);
+            Err(files::fail(err, "max3420e: ", b"the file's name", error))
+        }
     }
 }
 
-// How many arguments there are, the program's name among them: five where there are more.
-fn arg_count(rt: &impl Env) -> usize {
-    let mut count: usize = 0;
-    while count < 5 {
-        if !is_given(rt, count) {
-            return count;
-        }
-        count += 1;
-    }
-    count
+fn run_typed(
+    rt: &(impl Input + Print),
+    err: &impl Print,
+    listener: impl Listener,
+    typed: bool,
+) -> Result<(), Told> {
+    run(rt, err, listener, rt.reader(), "standard input", typed)
 }
 
 // Runs on the file that an argument names.
 fn run_file(
     rt: &(impl Env + Files + Print),
     err: &impl Print,
-    argument: usize,
-    taught: bool,
-) -> bool {
-    let mut path = [0u8; 4096];
-    match rt.arg(argument, &mut path) {
-        Ok(length) => match files::open(rt, err, &path[..length]) {
-            Some(mut input) => run(rt, err, &mut input, &path[..length], taught, false),
-            None => false,
-        },
-        Err(_) => {
-            tell_name(err);
-            false
-        }
-    }
+    listener: impl Listener,
+    place: usize,
+) -> Result<(), Told> {
+    let mut room = [0u8; 4096];
+    let path = name_at(rt, err, place, &mut room)?;
+    let (path, input) = files::open(rt, err, path)?;
+    run(rt, err, listener, input, path, false)
 }
 
-// The console on a file or, with no argument at that place, on standard input.
-fn run_console(
+fn replay(rt: &(impl Env + Files + Print), err: &impl Print) -> Result<(), Told> {
+    let mut room = [0u8; 4096];
+    let path = name_at(rt, err, 2, &mut room)?;
+    lesson_files::replay(rt, err, path)
+}
+
+fn record(rt: &(impl Env + Files + Print), err: &impl Print) -> Result<(), Told> {
+    let mut script = [0u8; 4096];
+    let mut room = [0u8; 4096];
+    let script = name_at(rt, err, 2, &mut script)?;
+    let path = name_at(rt, err, 3, &mut room)?;
+    lesson_files::record(rt, err, script, path)
+}
+
+// Does what the arguments ask for: the first says what, the program's name and five at most are counted.
+fn start(
     rt: &(impl Env + Files + Input + Print),
     err: &impl Print,
-    place: usize,
-    taught: bool,
     typed: bool,
-) -> bool {
-    let count = arg_count(rt);
-    if count <= place {
-        let mut input = rt.reader();
-        return run(rt, err, &mut input, b"standard input", taught, typed);
-    }
-    if count - place == 1 {
-        return run_file(rt, err, place, taught);
-    }
-    tell_usage(err);
-    false
-}
-
-fn replay(rt: &(impl Env + Files + Print), err: &impl Print) -> bool {
-    let mut path = [0u8; 4096];
-    if arg_count(rt) != 3 {
-        tell_usage(err);
-        return false;
-    }
-    match rt.arg(2, &mut path) {
-        Ok(length) => lesson_files::replay(rt, err, &path[..length]),
-        Err(_) => {
-            tell_name(err);
-            false
-        }
-    }
-}
-
-// The script that the second argument names is recorded in the file that the third does.
-fn record_script(rt: &(impl Env + Files + Print), err: &impl Print, script: &[u8]) -> bool {
-    let mut path = [0u8; 4096];
-    match rt.arg(3, &mut path) {
-        Ok(length) => lesson_files::record(rt, err, script, &path[..length]),
-        Err(_) => {
-            tell_name(err);
-            false
-        }
-    }
-}
-
-fn record(rt: &(impl Env + Files + Print), err: &impl Print) -> bool {
-    let mut script = [0u8; 4096];
-    if arg_count(rt) != 4 {
-        tell_usage(err);
-        return false;
-    }
-    match rt.arg(2, &mut script) {
-        Ok(length) => record_script(rt, err, &script[..length]),
-        Err(_) => {
-            tell_name(err);
-            false
-        }
-    }
-}
-
-fn read_asked(rt: &impl Env) -> Asked {
+) -> Result<(), Told> {
+    let count = (0..5).take_while(|place| is_given(rt, *place)).count();
     let mut word = [0u8; 4096];
     let length = rt.arg(1, &mut word).unwrap_or(0);
-    if words::is_name(&word[..length], b"classroom") {
-        return Asked::Classroom;
-    }
-    if words::is_name(&word[..length], b"replay") {
-        return Asked::Replay;
-    }
-    if words::is_name(&word[..length], b"record") {
-        return Asked::Record;
-    }
-    Asked::Console
-}
-
-// Does what the arguments ask for, and answers whether that went well.
-fn start(rt: &(impl Env + Files + Input + Print), err: &impl Print, typed: bool) -> bool {
-    match read_asked(rt) {
-        Asked::Console => run_console(rt, err, 1, false, typed),
-        Asked::Classroom => run_console(rt, err, 2, true, typed),
-        Asked::Replay => replay(rt, err),
-        Asked::Record => record(rt, err),
+    match (&word[..length], count) {
+        (b"replay", 3) => replay(rt, err),
+        (b"record", 4) => record(rt, err),
+        (b"classroom", 2) => run_typed(rt, err, Roster::start(), typed),
+        (b"classroom", 3) => run_file(rt, err, Roster::start(), 2),
+        (b"replay" | b"record" | b"classroom", _) | (_, 3..) => { Err(files::tell(err, USAGE)) }
+        (_, 2) => run_file(rt, err, Console::power_on(), 1),
+        (_, _) => run_typed(rt, err, Console::power_on(), typed),
     }
 }
 
 // The status is 1 where something that was to be read or written was not.
 fn main(rt: HostRuntime) -> ExitCode {
-    let input = rt.stdin();
+    let typed = rt.stdin().is_terminal();
     let err = rt.stderr();
-    if start(&rt, &err, input.is_terminal()) {
-        ExitCode::SUCCESS
-    } else {
-        ExitCode::FAILURE
+    match start(&rt, &err, typed) {
+        Ok(()) => ExitCode::SUCCESS,
+        Err(Told) => ExitCode::FAILURE,
     }
 }

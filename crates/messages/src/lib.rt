@@ -1,17 +1,22 @@
 // What the console says of itself: its greeting, its help, and why a line cannot be read.
 #![tactic(auto)]
 
-ghost use Rattle.std.specs.Prelude.{◌≤◌, length};
-
-use output::Output;
 use script::{Expected, Fault};
+use std::fmt;
+use std::fmt::Write;
 
 // At most so many bytes of a word are repeated.
 const WORD: usize = 32;
 
+pub const GREETING: &str =
+    " A MAX3420E at power-on. Type help for the lines it takes; end with control-D.\n";
+
+pub const CLASSROOM_GREETING: &str =
+    " Sixteen desks, all closed. Type help for the lines it takes; end with control-D.\n";
+
 // The lines that can be typed, each with an example.
-const HELP: [u8; 1903] =
-    *b"\x20 Line                                    Example                      What it does\n\
+pub const HELP: &str =
+    "\x20 Line                                    Example                      What it does\n\
     \x20 spi BYTES                               spi 58 00                    an SPI transfer, command byte first\n\
     \x20 power                                   power                        the chip and the firmware at power-on\n\
     \x20 stable                                  stable                       the oscillator is stable\n\
@@ -33,7 +38,7 @@ const HELP: [u8; 1903] =
     \x20 Numbers are hex of one or two digits; # starts a comment.\n";
 
 // The lines of a classroom.
-const CLASSROOM_HELP: [u8; 632] = *b"\x20 Line            Example                What it does\n\
+pub const CLASSROOM_HELP: &str = "\x20 Line            Example                What it does\n\
     \x20 open DESK KEY   open 3 DEADBEEF        opens a desk, whose board is at power-on, for who has the key\n\
     \x20 close DESK      close 3                closes a desk: its board goes back to power-on\n\
     \x20 DESK KEY LINE   3 DEADBEEF spi 58 00   a line at a desk\n\
@@ -42,175 +47,63 @@ const CLASSROOM_HELP: [u8; 632] = *b"\x20 Line            Example               
     \x20 help            help                   these lines\n\
     \x20 A desk is a decimal number, 0 to 15; a key is one to eight hex digits, not 0; # starts a comment.\n";
 
-pub fn put_greeting(rt: &impl Print, page: &mut [u8], output: Output) -> Output
-    ensures { result.filled ≤ length page.old }
-{
-    output::put(
-        rt,
-        b" A MAX3420E at power-on. Type help for the lines it takes; end with control-D.\n",
-        page,
-        output,
-    )
-}
-
-pub fn put_help(rt: &impl Print, page: &mut [u8], output: Output) -> Output
-    ensures { result.filled ≤ length page.old }
-{
-    output::put(rt, &HELP, page, output)
-}
-
-pub fn put_classroom_greeting(rt: &impl Print, page: &mut [u8], output: Output) -> Output
-    ensures { result.filled ≤ length page.old }
-{
-    output::put(
-        rt,
-        b" Sixteen desks, all closed. Type help for the lines it takes; end with control-D.\n",
-        page,
-        output,
-    )
-}
-
-pub fn put_classroom_help(rt: &impl Print, page: &mut [u8], output: Output) -> Output
-    ensures { result.filled ≤ length page.old }
-{
-    output::put(rt, &CLASSROOM_HELP, page, output)
-}
-
-// What a line that names no call should start with.
-fn put_lines(rt: &impl Print, page: &mut [u8], output: Output) -> Output
-    ensures { result.filled ≤ length page.old }
-{
-    let next = output::put(
-        rt,
-        b"a line starts with spi, power, stable, vbus, pins, reset, suspend, activity, ",
-        page,
-        output,
-    );
-    output::put(
-        rt,
-        b"setup, out, in, event, step, room, show or help",
-        page,
-        next,
-    )
-}
-
-// The same in a classroom.
-fn put_orders(rt: &impl Print, page: &mut [u8], output: Output) -> Output
-    ensures { result.filled ≤ length page.old }
-{
-    output::put(
-        rt,
-        b"a line starts with a desk's number, open, close, desks or help",
-        page,
-        output,
-    )
-}
-
-// The same in the script of a lesson, which has calls of the chip only.
-fn put_entries(rt: &impl Print, page: &mut [u8], output: Output) -> Output
-    ensures { result.filled ≤ length page.old }
-{
-    let next = output::put(
-        rt,
-        b"a line of a lesson starts with spi, power, stable, vbus, pins, reset, suspend, activity, ",
-        page,
-        output,
-    );
-    output::put(rt, b"setup, out, in, event or tick", page, next)
-}
-
-fn put_expected(rt: &impl Print, expected: Expected, page: &mut [u8], output: Output) -> Output
-    ensures { result.filled ≤ length page.old }
-{
+// What a line should have had there.
+fn expectation(expected: Expected) -> &'static str {
     match expected {
-        Expected::Line => put_lines(rt, page, output),
-        Expected::Byte => output::put(rt, b"a byte is one or two hex digits", page, output),
-        Expected::Switch => output::put(rt, b"vbus goes on or off", page, output),
-        Expected::Edge => output::put(rt, b"a reset has a start or an end", page, output),
-        Expected::Pins => output::put(rt, b"pins are one or two hex digits", page, output),
-        Expected::Code => output::put(rt, b"an event code is one or two hex digits", page, output),
-        Expected::Address => output::put(rt, b"an address is one or two hex digits", page, output),
-        Expected::Endpoint => output::put(
-            rt,
-            b"an endpoint is one or two hex digits",
-            page,
-            output,
-        ),
-        Expected::Toggle => output::put(rt, b"an OUT packet is data0 or data1", page, output),
-        Expected::Room => output::put(rt, b"a room is a decimal number", page, output),
-        Expected::End => output::put(rt, b"the line should end here", page, output),
-        Expected::Order => put_orders(rt, page, output),
-        Expected::Desk => output::put(rt, b"a desk is a decimal number", page, output),
-        Expected::Key => output::put(rt, b"a key is one to eight hex digits", page, output),
-        Expected::Entry => put_entries(rt, page, output),
-        Expected::Tick => output::put(
-            rt,
-            b"a tick is a decimal number, 0 to 4294967295",
-            page,
-            output,
-        ),
-    }
-}
-
-// A byte of a word: itself where it can be read.
-fn put_glyph(rt: &impl Print, byte: u8, page: &mut [u8], output: Output) -> Output
-    ensures { result.filled ≤ length page.old }
-{
-    if (byte < 33) | (126 < byte) {
-        return output::put(rt, b"?", page, output);
-    }
-    output::put(rt, &[byte], page, output)
-}
-
-// A word between quotation marks, cut where it is long.
-fn put_word(rt: &impl Print, word: &[u8], page: &mut [u8], output: Output) -> Output
-    ensures { result.filled ≤ length page.old }
-{
-    let mut next = output::put(rt, b", not '", page, output);
-    let mut i: usize = 0;
-    while i < word.len() {
-        if WORD <= i {
-            return output::put(rt, b"..'", page, next);
+        Expected::Line => {
+            "a line starts with spi, power, stable, vbus, pins, reset, suspend, activity, \
+            setup, out, in, event, step, room, show or help"
         }
-        next = put_glyph(rt, word[i], page, next);
-        i += 1;
+        Expected::Byte => "a byte is one or two hex digits",
+        Expected::Switch => "vbus goes on or off",
+        Expected::Edge => "a reset has a start or an end",
+        Expected::Pins => "pins are one or two hex digits",
+        Expected::Code => "an event code is one or two hex digits",
+        Expected::Address => "an address is one or two hex digits",
+        Expected::Endpoint => "an endpoint is one or two hex digits",
+        Expected::Toggle => "an OUT packet is data0 or data1",
+        Expected::Room => "a room is a decimal number",
+        Expected::End => "the line should end here",
+        Expected::Order => "a line starts with a desk's number, open, close, desks or help",
+        Expected::Desk => "a desk is a decimal number",
+        Expected::Key => "a key is one to eight hex digits",
+        Expected::Entry => {
+            "a line of a lesson starts with spi, power, stable, vbus, pins, reset, suspend, activity, \
+            setup, out, in, event or tick"
+        }
+        Expected::Tick => "a tick is a decimal number, 0 to 4294967295",
     }
-    output::put(rt, b"'", page, next)
 }
 
-// What was expected, and the word that stands there.
-pub fn put_reason(
-    rt: &impl Print,
-    fault: Fault,
-    line: &[u8],
-    page: &mut [u8],
-    output: Output,
-) -> Output
-    ensures { result.filled ≤ length page.old }
-{
-    let expected = fault.expected;
-    let start = fault.start;
-    let end = fault.end;
-    let next = put_expected(rt, expected, page, output);
-    if end <= start {
-        return output::put(rt, b", but the line ends", page, next);
+// A word between quotation marks, cut where it is long. A byte that cannot be read is a question mark.
+#[derive(Clone, Copy)]
+struct Quoted<'a>(&'a [u8]);
+
+impl<'a> fmt::Display for Quoted<'a> {
+    fn fmt<W: Write>(&self, f: &mut fmt::Formatter<W>) -> fmt::Result {
+        write!(f, "'")?;
+        for byte in self.0.iter().take(WORD) {
+            let glyph = if byte.is_ascii_graphic() { *byte } else { b'?' };
+            f.write_char(char::from(glyph))?;
+        }
+        let end = if self.0.len() > WORD { "..'" } else { "'" };
+        f.write_str(end)
     }
-    if line.len() < end {
-        return next;
-    }
-    put_word(rt, &line[start..end], page, next)
 }
 
-// The same as an answer.
-pub fn put_fault(
-    rt: &impl Print,
-    fault: Fault,
-    line: &[u8],
-    page: &mut [u8],
-    output: Output,
-) -> Output
-    ensures { result.filled ≤ length page.old }
-{
-    let lead = output::put(rt, b"error: ", page, output);
-    put_reason(rt, fault, line, page, lead)
+// Why a line cannot be read: what was expected, and the word that stands there.
+#[derive(Clone, Copy)]
+pub struct Reason<'a>(pub Fault<'a>);
+
+impl<'a> fmt::Display for Reason<'a> {
+    fn fmt<W: Write>(&self, f: &mut fmt::Formatter<W>) -> fmt::Result {
+        let expected = expectation(self.0.expected);
+        match self.0.word {
+            None => write!(f, "{expected}, but the line ends"),
+            Some(word) => {
+                let word = Quoted(word);
+                write!(f, "{expected}, not {word}")
+            }
+        }
+    }
 }

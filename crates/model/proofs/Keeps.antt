@@ -1,5 +1,6 @@
 -- From a row to a byte, a transfer, a call and a list of calls: where every row of a model and of a book keeps a relation between
 -- the two, so does every run that breaks no condition. For any state, any book, any relation and any condition.
+use Rattle.std.specs.Prelude.{Ok, Err}
 use mathlib.Core.Path.{◌≡◌, refl, ap, ◌∙◌, subst}
 use mathlib.Core.Bool.{Bool, true, false, cond, ◌||◌}
 use mathlib.Core.List.{List, [], ◌∷◌}
@@ -8,8 +9,7 @@ use native.Mathlib.Omega.{arith}
 use lib.ListN.{length}
 use Rattle.bits.proofs.Cases.{cond_elim, or_false}
 use Rattle.refusal.specs.declared.Refusal.{Refusal}
-use Rattle.refusal.specs.declared.Checked.{Checked}
-use Rattle.refusal.specs.declared.Checked.TheVariants.{Accepted, Refused}
+use Rattle.refusal.specs.Check.{Checked}
 use Rattle.model.specs.declared.Event.{Event}
 use Rattle.model.specs.Reply.{Outcome, Reply}
 use Rattle.model.specs.Spi.{command_register, command_writes, command_acknowledges, read_to, burst_to, command_to, transfer_to}
@@ -80,7 +80,7 @@ module _ {R B : Type 0} {m : Model R} {q : Book B} {s : Condition R} {I : B → 
 
   -- ---- a call
 
-  accepted_keeps : (k : Call) (l : B) (c : R) → checked m c k ≡ Accepted → breaks_accepted m s c k ≡ false → I l c
+  accepted_keeps : (k : Call) (l : B) (c : R) → checked m c k ≡ (Ok tt) → breaks_accepted m s c k ≡ false → I l c
       → I (note_accepted q l k (accepted_outcome m c k).gives) (accepted_outcome m c k).state
   accepted_keeps (transfer bytes room) l c accepted h i = transfer_keeps bytes l c h i
   accepted_keeps (event e payload room) l c accepted h i =
@@ -90,8 +90,8 @@ module _ {R B : Type 0} {m : Model R} {q : Book B} {s : Condition R} {I : B → 
   checked_keeps : (k : Call) (l : B) (c : R) (v : Checked) → checked m c k ≡ v → breaks_checked m s c k v ≡ false → I l c
       → I (note q l k (checked_answer m c k v)) (checked_to m c k v)
   unfolding note
-  checked_keeps k l c Accepted e h i = accepted_keeps k l c e h i
-  checked_keeps k l c (Refused r) e h i = i
+  checked_keeps k l c (Ok tt) e h i = accepted_keeps k l c e h i
+  checked_keeps k l c (Err r) e h i = i
 
   pub call_keeps : (k : Call) (l : B) (c : R) → breaks_call m s c k ≡ false → I l c → I (note q l k (answer_of m c k)) (call_to m c k)
   unfolding answer_of call_to breaks_call
@@ -120,9 +120,9 @@ module _ {R : Type 0} (m : Model R) where
       cond_elim (λ (t : Bool). t ≡ false) (command_writes k) (λ _. burst_always bs (command_to m.spi c k) (command_register k)) (λ _. refl)
 
   checked_always : (k : Call) (c : R) (v : Checked) → breaks_checked m always c k v ≡ false
-  checked_always (transfer bytes room) c Accepted = transfer_always bytes c
-  checked_always (event e payload room) c Accepted = refl
-  checked_always k c (Refused r) = refl
+  checked_always (transfer bytes room) c (Ok tt) = transfer_always bytes c
+  checked_always (event e payload room) c (Ok tt) = refl
+  checked_always k c (Err r) = refl
 
   pub call_always : (k : Call) (c : R) → breaks_call m always c k ≡ false
   unfolding breaks_call
@@ -137,12 +137,12 @@ module _ {R : Type 0} (m : Model R) where
 
 refused_only : {R B : Type 0} (m : Model R) (q : Book B) (l : B) (c : R) (k : Call) (r : Refusal) (v : Checked) → checked_answer m c k v
     ≡ refused r
-    → (checked_to m c k v ≡ c) × (note q l k (checked_answer m c k v) ≡ l) × (v ≡ Refused r)
+    → (checked_to m c k v ≡ c) × (note q l k (checked_answer m c k v) ≡ l) × (v ≡ Err r)
 unfolding note
-refused_only m q l c k r Accepted e = let z : ◌≡◌ {A = ℕ} 0 1 = cc in absurd (omega arith)
-refused_only m q l c k r (Refused t) e = (refl, refl, cc)
+refused_only m q l c k r (Ok tt) e = let z : ◌≡◌ {A = ℕ} 0 1 = cc in absurd (omega arith)
+refused_only m q l c k r (Err t) e = (refl, refl, cc)
 
 pub refused_keeps : {R B : Type 0} (m : Model R) (q : Book B) (l : B) (c : R) (k : Call) (r : Refusal) → answer_of m c k ≡ refused r
-    → (call_to m c k ≡ c) × (note q l k (answer_of m c k) ≡ l) × (checked m c k ≡ Refused r)
+    → (call_to m c k ≡ c) × (note q l k (answer_of m c k) ≡ l) × (checked m c k ≡ Err r)
 unfolding answer_of call_to
 refused_keeps m q l c k r e = refused_only m q l c k r (checked m c k) e

@@ -1,5 +1,6 @@
 -- The grounds against a call stand in the order of the paper, and each is given exactly when it applies and none before it does; a
 -- sound state is never refusal 1.
+use Rattle.std.specs.Prelude.{Ok, Err}
 use mathlib.Core.Path.{◌≡◌, refl, sym, ap}
 use mathlib.Core.Logic.{◌↔◌}
 use mathlib.Core.Bool.{Bool, true}
@@ -12,8 +13,7 @@ use Rattle.bits.proofs.Cases.{true_is_false}
 use Rattle.bits.proofs.First.{FirstAt, first_each, Each, ◌⨾◌}
 use Rattle.refusal.specs.declared.Refusal.{Refusal}
 use Rattle.refusal.specs.declared.Refusal.TheVariants.{Unsound}
-use Rattle.refusal.specs.declared.Checked.{Checked}
-use Rattle.refusal.specs.declared.Checked.TheVariants.{Accepted, Refused}
+use Rattle.refusal.specs.Check.{Checked}
 use Rattle.refusal.specs.Check.{ground, check, checked_number}
 use Rattle.refusal.proofs.Check.{accepted_none, in_order, refusal_at, check_exactly}
 use Rattle.model.specs.declared.Event.{Event}
@@ -30,7 +30,7 @@ pub refusal_exactly : (sound : Bool) (k : Call) (i : ℕ) → i < length (ground
 refusal_exactly sound k = check_exactly (grounds sound k) (grounds_in_order sound k)
 
 -- the payload of an accepted OUT has at most 64 bytes
-pub short_out : (sound : Bool) (e : Event) (n room : ℕ) (gs : List (Bool × Refusal)) → check (event_grounds sound e n room ++ gs) ≡ Accepted
+pub short_out : (sound : Bool) (e : Event) (n room : ℕ) (gs : List (Bool × Refusal)) → check (event_grounds sound e n room ++ gs) ≡ (Ok tt)
     → e.code ≡ 11 → n ≤ 64
 short_out sound e n room gs accepted out =
     ltb-false 64 n (rw (eq-eqb e.code 11 out) at (accepted_none (event_grounds sound e n room ++ gs) accepted 3))
@@ -38,7 +38,7 @@ short_out sound e n room gs accepted out =
 -- ---- refusal 1
 
 abbrev pub NotUnsound : Checked → Type 0
-NotUnsound v = v ≡ Refused Unsound → ⊥
+NotUnsound v = v ≡ Err Unsound → ⊥
 
 other : (v : Checked) → (checked_number v ≡ 1 → ⊥) → NotUnsound v
 other v n e = n (ap checked_number e)
@@ -46,12 +46,12 @@ other v n e = n (ap checked_number e)
 -- a sound state is never refusal 1, if none of the further grounds is
 pub sound_accepted : (k : Call) (gs : List (Bool × Refusal)) → Each NotUnsound (map ground gs) → NotUnsound (check (grounds true k ++ gs))
 sound_accepted (transfer bytes room) gs others =
-    first_each NotUnsound (map ground (transfer_grounds true (length bytes) room ++ gs)) Accepted
+    first_each NotUnsound (map ground (transfer_grounds true (length bytes) room ++ gs)) (Ok tt)
     ((λ t. true_is_false (sym t)) ⨾ (λ t. other _ (λ e. omega arith)) ⨾ (λ t. other _ (λ e. omega arith)) ⨾
     (λ t. other _ (λ e. omega arith)) ⨾ others)
-    (other Accepted (λ e. omega arith))
+    (other (Ok tt) (λ e. omega arith))
 sound_accepted (event v payload room) gs others =
-    first_each NotUnsound (map ground (event_grounds true v (length payload) room ++ gs)) Accepted
+    first_each NotUnsound (map ground (event_grounds true v (length payload) room ++ gs)) (Ok tt)
     ((λ t. true_is_false (sym t)) ⨾ (λ t. other _ (λ e. omega arith)) ⨾ (λ t. other _ (λ e. omega arith)) ⨾
     (λ t. other _ (λ e. omega arith)) ⨾ (λ t. other _ (λ e. omega arith)) ⨾ (λ t. other _ (λ e. omega arith)) ⨾ others)
-    (other Accepted (λ e. omega arith))
+    (other (Ok tt) (λ e. omega arith))

@@ -1,11 +1,11 @@
 -- A run of calls, then another, is the run of both; and how long the answer and the lent buffer of a transfer are.
+use Rattle.std.specs.Prelude.{Ok, Err}
 use mathlib.Core.Path.{◌≡◌, refl, ap, ◌∙◌}
 use mathlib.Core.List.{List, [], ◌∷◌, ◌++◌}
 use Prim.Native.Nat.{ℕ, suc}
 use native.Mathlib.Omega.{arith}
 use lib.ListN.{length, drop, length-append, length-drop}
-use Rattle.refusal.specs.declared.Checked.{Checked}
-use Rattle.refusal.specs.declared.Checked.TheVariants.{Accepted, Refused}
+use Rattle.refusal.specs.Check.{Checked}
 use Rattle.model.specs.Spi.{Spi, transfer_of, command_to, command_writes, command_register}
 use Rattle.model.specs.Call.{Call, transfer, Model, checked_answer, answer_of, buffer_after, checked, call_to, run_to}
 use Rattle.model.proofs.Loop.{burst_length}
@@ -22,11 +22,11 @@ transfer_length f c (b ∷ bs) = ap suc (burst_length f (command_writes b) bs (c
 
 checked_buffer : {R : Type 0} (m : Model R) (c : R) (bs buffer : List ℕ) (v : Checked) → length bs ≡ length buffer
     → length (buffer_after (checked_answer m c (transfer bs (length buffer)) v) buffer) ≡ length buffer
-checked_buffer m c bs buffer Accepted e =
+checked_buffer m c bs buffer (Ok tt) e =
     let n = transfer_length m.spi c bs in
     length-append (transfer_of m.spi c bs) (drop (length (transfer_of m.spi c bs)) buffer)
     ∙ omega (arith, length-drop (length (transfer_of m.spi c bs)) buffer, n)
-checked_buffer m c bs buffer (Refused r) e = refl
+checked_buffer m c bs buffer (Err r) e = refl
 
 -- a buffer as long as the transfer keeps its length
 pub transfer_buffer : {R : Type 0} (m : Model R) (c : R) (bs buffer : List ℕ) → length bs ≡ length buffer

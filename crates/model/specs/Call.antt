@@ -1,12 +1,11 @@
 -- A call to a model over any state: when it is refused, its answer, the state after it, the lent buffer after it; and a list of
 -- calls with its history (document 01, "Numbers of refusal").
-use Rattle.std.specs.Prelude.{Bool, not, ◌&&◌, ◌||◌, List, [], ◌∷◌, ◌++◌, ℕ, eqb, ltb, length}
+use Rattle.std.specs.Prelude.{Bool, not, ◌&&◌, ◌||◌, List, [], ◌∷◌, ◌++◌, ℕ, eqb, ltb, length, Ok, Err}
 use Rattle.refusal.specs.declared.Refusal.{Refusal}
 use Rattle.refusal.specs.declared.Refusal.TheVariants.{Unsound, NoCommand, LongTransfer, ShortBuffer, UnknownEvent, OutPayload}
 use Rattle.refusal.specs.declared.Refusal.TheVariants.{SetupPayload, BadAddress}
 use Rattle.refusal.specs.Check.{check}
-use Rattle.refusal.specs.declared.Checked.{Checked}
-use Rattle.refusal.specs.declared.Checked.TheVariants.{Accepted, Refused}
+use Rattle.refusal.specs.Check.{Checked}
 use Rattle.model.specs.declared.Event.{Event}
 use Rattle.model.specs.Reply.{Outcome, outcome, Reply, transferred, reply_bytes, lent}
 use Rattle.model.specs.Spi.{Spi, transfer_to, transfer_of}
@@ -84,12 +83,12 @@ module _ {R : Type 0} (m : Model R) where
 
   -- a refused call changes nothing
   abbrev pub checked_to : R → Call → Checked → R
-  checked_to c k Accepted = (accepted_outcome c k).state
-  checked_to c k (Refused r) = c
+  checked_to c k (Ok tt) = (accepted_outcome c k).state
+  checked_to c k (Err r) = c
 
   abbrev pub checked_answer : R → Call → Checked → Answer
-  checked_answer c k Accepted = answered (accepted_outcome c k).gives
-  checked_answer c k (Refused r) = refused r
+  checked_answer c k (Ok tt) = answered (accepted_outcome c k).gives
+  checked_answer c k (Err r) = refused r
 
   -- the state after a call, and its answer
   unfoldable pub call_to : R → Call → R

@@ -1,8 +1,7 @@
 -- A condition on the calls of a run, test by test: which byte written, and which event, breaks it in a state. A refused call does
 -- nothing, so it breaks none.
-use Rattle.std.specs.Prelude.{Bool, false, cond, ◌||◌, List, [], ◌∷◌, ℕ}
-use Rattle.refusal.specs.declared.Checked.{Checked}
-use Rattle.refusal.specs.declared.Checked.TheVariants.{Accepted, Refused}
+use Rattle.std.specs.Prelude.{Bool, false, cond, ◌||◌, List, [], ◌∷◌, ℕ, Ok, Err}
+use Rattle.refusal.specs.Check.{Checked}
 use Rattle.model.specs.declared.Event.{Event}
 use Rattle.model.specs.Spi.{command_register, command_writes, write_to, command_to}
 use Rattle.model.specs.Call.{Call, transfer, event, Model, checked, call_to}
@@ -30,8 +29,8 @@ module _ {R : Type 0} (m : Model R) (q : Condition R) where
   breaks_accepted c (event e payload room) = q.event c e
 
   abbrev pub breaks_checked : R → Call → Checked → Bool
-  breaks_checked c k Accepted = breaks_accepted c k
-  breaks_checked c k (Refused r) = false
+  breaks_checked c k (Ok tt) = breaks_accepted c k
+  breaks_checked c k (Err r) = false
 
   unfoldable pub breaks_call : R → Call → Bool
   breaks_call c k = breaks_checked c k (checked m c k)

@@ -3,11 +3,12 @@
 #![tactic(auto)]
 
 // The number of an endpoint, 0 to 15: a kind of number of its own (document 02, Ask 3).
-#[derive(Clone, Copy)]
+#[derive(Clone, Copy, Debug, PartialEq, Eq)]
 pub struct EndpointNumber(pub u8);
 
-// An event of the bus side. Fields that an event does not use are ignored.
-#[derive(Clone, Copy)]
+// An event of the bus side. Fields that an event does not use are ignored. Its code stays a number: the bus side takes every code, a C
+// program's too, and refuses those that are none of the twelve.
+#[derive(Clone, Copy, Debug, PartialEq, Eq)]
 pub struct Event {
     // 1 power-on, 2 oscillator stable, 3 VBUS on, 4 VBUS off, 5 input pins, 6 bus reset start, 7 bus reset end,
     // 8 suspend, 9 activity, 10 SETUP, 11 OUT, 12 IN.

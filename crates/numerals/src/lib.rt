@@ -1,134 +1,82 @@
 // Numbers as text: hex bytes of one or two digits, decimal numbers, keys of one to eight hex digits.
 #![tactic(auto)]
 
-ghost use Rattle.std.specs.Prelude.{◌≡◌, [], ◌∷◌, ◌<◌, ◌≤◌, ◌/◌, ◌%◌, length, get_or};
-ghost use Rattle.numerals.specs.Numerals.{hex_digit, hex_glyph, byte_of_digits, byte_of, grown, number_of, hex_key_of};
+ghost use Rattle.std.specs.Prelude.{◌≡◌, ℕ, ◌<◌, ◌≤◌, Option};
+ghost use Rattle.numerals.specs.Numerals.{digit_of, byte_of, grown, digits_of, number_of, hex_key_of};
 
-// What a word says where a byte is expected.
-#[derive(Clone, Copy)]
-pub enum ByteWord {
-    Byte(u8),
-    Unreadable,
+// How a number takes in one more digit of a base. There is none where it does not fit.
+pub trait Growth {
+    ghost taken: { ℕ → ℕ → ℕ → Option ℕ };
+
+    fn take(number: u32, digit: u32, base: u32) -> Option<u32>
+        requires { (digit < base) × (base ≤ 16) }
+        ensures { result ≡ taken base number digit };
 }
 
-// What a word says where a number is expected.
-#[derive(Clone, Copy)]
-pub enum NumberWord {
-    Number(u32),
-    Unreadable,
-}
+// A number that is too large counts as some number over 2 to the 28: from there on it stays.
+pub struct Capped;
 
-// The value of a hex digit of either case, or 16.
-fn hex_digit(glyph: u8) -> u8
-    ensures { (result ≡ hex_digit glyph) × (result ≤ 16) }
-{
-    if glyph < 48 {
-        return 16;
-    }
-    if glyph < 58 {
-        return glyph - 48;
-    }
-    if glyph < 65 {
-        return 16;
-    }
-    if glyph < 71 {
-        return glyph - 55;
-    }
-    if glyph < 97 {
-        return 16;
-    }
-    if glyph < 103 {
-        return glyph - 87;
-    }
-    16
-}
+impl Growth for Capped {
+    ghost taken = { grown };
 
-// The upper-case digit of a number below 16.
-fn hex_glyph(digit: u8) -> u8
-    requires { digit < 16 }
-    ensures { result ≡ hex_glyph digit }
-{
-    if digit < 10 { 48 + digit } else { 55 + digit }
-}
-
-fn byte_of_digits(high: u8, low: u8) -> ByteWord
-    ensures { result ≡ byte_of_digits high low }
-{
-    if high < 16 {
-        if low < 16 {
-            return ByteWord::Byte(high * 16 + low);
+    fn take(number: u32, digit: u32, base: u32) -> Option<u32> {
+        if number < 268435456 {
+            Some(number * base + digit)
+        } else {
+            Some(number)
         }
     }
-    ByteWord::Unreadable
+}
+
+fn digit_of(glyph: u8, base: u32) -> Option<u32>
+    requires { (2 ≤ base) × (base ≤ 16) }
+    ensures { result ≡ digit_of base glyph }
+{
+    char::from(glyph).to_digit(base)
 }
 
 // One or two hex digits.
 #[tactic(auto, unfolding(crate::specs::Numerals::byte_of))]
-pub fn read_byte(word: &[u8]) -> ByteWord
+pub fn read_byte(word: &[u8]) -> Option<u8>
     ensures { result ≡ byte_of word.now }
 {
-    if word.len() == 1 {
-        return byte_of_digits(0, hex_digit(word[0]));
-    }
-    if word.len() == 2 {
-        return byte_of_digits(hex_digit(word[0]), hex_digit(word[1]));
-    }
-    ByteWord::Unreadable
+    let (high, low) = match word {
+        [low] => (0, digit_of(*low, 16)?),
+        [high, low] => (digit_of(*high, 16)?, digit_of(*low, 16)?),
+        _ => return None,
+    };
+    Some((high * 16 + low) as u8)
 }
 
-// A number with one more digit; from 2 to the 28 on it stays.
-fn grow(number: u32, digit: u8, base: u8) -> u32
-    requires { (digit < base) × (base ≤ 16) }
-    ensures { result ≡ grown base number digit }
+// Digits of a base, at least one.
+#[tactic(auto, unfolding(crate::specs::Numerals::digits_of))]
+pub fn read_digits<G: Growth>(word: &[u8], base: u32) -> Option<u32>
+    requires { (2 ≤ base) × (base ≤ 16) }
+    ensures { result ≡ digits_of G.taken base word.now }
 {
-    if number < 268435456 {
-        return number * base as u32 + digit as u32;
+    if word.is_empty() {
+        return None;
     }
-    number
+    let mut number = 0;
+    for glyph in word {
+        number = G::take(number, digit_of(*glyph, base)?, base)?;
+    }
+    Some(number)
 }
 
-// Digits of a base, at least one. A number that is too large counts as some number over 2 to the 28.
-#[tactic(auto, unfolding(crate::specs::Numerals::number_of))]
-fn read_number(word: &[u8], base: u8) -> NumberWord
-    requires { base ≤ 16 }
-    ensures { result ≡ number_of base word.now }
-{
-    if word.len() == 0 {
-        return NumberWord::Unreadable;
-    }
-    let mut number: u32 = 0;
-    let mut i: usize = 0;
-    while i < word.len() {
-        let digit = hex_digit(word[i]);
-        if base <= digit {
-            return NumberWord::Unreadable;
-        }
-        number = grow(number, digit, base);
-        i += 1;
-    }
-    NumberWord::Number(number)
-}
-
-pub fn read_decimal(word: &[u8]) -> NumberWord
+pub fn read_decimal(word: &[u8]) -> Option<u32>
     ensures { result ≡ number_of 10 word.now }
 {
-    read_number(word, 10)
+    read_digits::<Capped>(word, 10)
 }
 
 // A key: one to eight hex digits.
 #[tactic(auto, unfolding(crate::specs::Numerals::hex_key_of))]
-pub fn read_key(word: &[u8]) -> NumberWord
+pub fn read_key(word: &[u8]) -> Option<u32>
     ensures { result ≡ hex_key_of word.now }
 {
     if 8 < word.len() {
-        return NumberWord::Unreadable;
+        return None;
     }
-    read_number(word, 16)
-}
-
-// Two upper-case hex digits.
-pub fn hex_pair(byte: u8) -> [u8; 2]
-    ensures { (result ≡ hex_glyph (byte / 16) ∷ hex_glyph (byte % 16) ∷ []) × (2 ≡ length result) }
-{
-    [hex_glyph(byte / 16), hex_glyph(byte % 16)]
+    read_digits::<Capped>(word, 16)
 }

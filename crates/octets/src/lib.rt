@@ -1,7 +1,7 @@
 // Runs of bytes: copied to where there is room, searched for a byte.
 #![tactic(auto)]
 
-ghost use Rattle.std.specs.Prelude.{◌≡◌, ◌++◌, ◌≤◌, length, drop};
+ghost use Rattle.std.specs.Prelude.{◌≡◌, ◌+◌, ◌++◌, ◌≤◌, ◌==◌, length, drop, position, slice_range, MatchOption};
 
 // Copies a run to the front of a lent buffer; how many bytes that is.
 pub fn copy(from: &[u8], to: &mut [u8]) -> usize
@@ -13,15 +13,22 @@ pub fn copy(from: &[u8], to: &mut [u8]) -> usize
     from.len()
 }
 
+// The first place of a byte in a run.
+pub fn place_of(run: &[u8], byte: u8) -> Option<usize>
+    ensures { result ≡ position (λ b. b == byte) run.now }
+{
+    run.iter().position(|b| *b == byte)
+}
+
 // The first place of a byte from one place on and before another, which is answered where there is none.
 pub fn find(run: &[u8], start: usize, end: usize, byte: u8) -> usize
     requires { (start ≤ end) × (end ≤ length run.now) }
-    ensures { (start ≤ result) × (result ≤ end) }
+    ensures within { (start ≤ result) × (result ≤ end) }
+    ensures first { MatchOption (position (λ b. b == byte) (slice_range run.now start end)) (result ≡ end)
+        (λ i. result ≡ start + i) }
 {
-    for at in start..end {
-        if run[at] == byte {
-            return at;
-        }
+    match place_of(&run[start..end], byte) {
+        Some(i) => start + i,
+        None => end,
     }
-    end
 }

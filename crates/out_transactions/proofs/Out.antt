@@ -1,4 +1,5 @@
 -- The verdicts on OUT: only a payload that is stored changes the record, and where one is stored at endpoint 1 there is room.
+use Rattle.std.specs.Prelude.{Ok}
 use mathlib.Core.Path.{◌≡◌, refl, ap}
 use mathlib.Core.Logic.{◌⊎◌, ⊎_elim}
 use mathlib.Core.Bool.{Bool, true, false, not, beq}
@@ -19,7 +20,7 @@ use Rattle.event_answer.specs.Answer.{event_answer_with, outcome_answer}
 use Rattle.out_transactions.specs.Handshake.{handshake_of}
 
 pub handshake_answer : (c taken : Chip) (v : OutVerdict) → (v ≡ Store → ⊥)
-    → outcome_answer (out_outcome c taken v) ≡ event_answer_with c (handshake_of v)
+    → outcome_answer (out_outcome c taken v) ≡ event_answer_with c (Ok (handshake_of v))
 handshake_answer c taken Silent n = refl
 handshake_answer c taken Stall n = refl
 handshake_answer c taken Nak n = refl

@@ -2,7 +2,7 @@
 // straight way for each makes the answer, so that no two ways join holding a record.
 #![tactic(auto)]
 
-ghost use Rattle.std.specs.Prelude.{◌≡◌, ◌<◌, ◌≤◌, length};
+ghost use Rattle.std.specs.Prelude.{◌≡◌, ◌<◌, ◌≤◌, List, ℕ, length};
 ghost use Rattle.model.specs.Reply.{outcome, ack};
 ghost use Rattle.rules.specs.Control.{ep0_setup, setup_to};
 ghost use Rattle.rules.specs.Out.{ep0_filled, ep1_filled, out0_taken, out1_taken, out0, out1};
@@ -12,6 +12,30 @@ ghost use Rattle.out_transactions.specs.Handshake.{handshake_of};
 use chip::{Chip, Endpoint0, Endpoint1, flipped};
 use event_answer::{EventAnswer, EventReply, answer_with};
 use rules::OutVerdict;
+use std::marker::Model;
+
+// The payload of an OUT that is not refused: at most a buffer's bytes. A clause sees the bytes.
+#[derive(Drop)]
+struct Payload<'a> {
+    bytes: &'a [u8],
+}
+
+impl<'a> Model for Payload<'a> {
+    ghost Value = { List ℕ };
+
+    ghost view = { λ p. p.bytes.now };
+
+    ghost invariant = { λ p. length p.bytes.now ≤ 64 };
+}
+
+impl<'a> Payload<'a> {
+    fn new(bytes: &'a [u8]) -> Payload<'a>
+        requires { length bytes.now ≤ 64 }
+        ensures { result ≡ bytes.now }
+    {
+        Payload { bytes }
+    }
+}
 
 // ---- SETUP
 
@@ -44,7 +68,7 @@ pub fn setup(mut chip: Chip, payload: &[u8]) -> EventAnswer
     chip.ep0 = ep0_setup(ep0, payload);
     chip.registers.epirq = epirq;
     chip.registers.epstalls = epstalls;
-    answer_with(chip, EventReply::Ack)
+    answer_with(chip, Ok(EventReply::Ack))
 }
 
 // ---- OUT
@@ -64,12 +88,11 @@ fn handshake(verdict: OutVerdict) -> EventReply
 }
 
 // The payload at the buffer's start; the rest stays.
-fn ep0_filled(mut e: Endpoint0, payload: &[u8]) -> Endpoint0
-    requires { length payload.now ≤ 64 }
-    ensures { result ≡ ep0_filled e payload.now }
+fn ep0_filled(mut e: Endpoint0, payload: Payload) -> Endpoint0
+    ensures { result ≡ ep0_filled e payload.entry }
 {
     let mut buffer = e.bytes;
-    let count = octets::copy(payload, &mut buffer);
+    let count = octets::copy(payload.bytes, &mut buffer);
     e.bytes = buffer;
     e.count = count as u8;
     e.readpos = 0;
@@ -77,9 +100,8 @@ fn ep0_filled(mut e: Endpoint0, payload: &[u8]) -> Endpoint0
     e
 }
 
-fn out0_taken(mut chip: Chip, payload: &[u8]) -> Chip
-    requires { length payload.now ≤ 64 }
-    ensures { result ≡ out0_taken chip payload.now }
+fn out0_taken(mut chip: Chip, payload: Payload) -> Chip
+    ensures { result ≡ out0_taken chip payload.entry }
 {
     let ep0 = chip.ep0;
     let epirq = chip.registers.epirq | Chip::OUT0DAVIRQ;
@@ -95,24 +117,25 @@ pub fn out0(chip: Chip, data1: bool, payload: &[u8]) -> EventAnswer
 {
     let verdict = verdicts::out0_verdict(chip, data1, payload.len());
     if let OutVerdict::Store = verdict {
-        return answer_with(out0_taken(chip, payload), EventReply::Ack);
+        return answer_with(out0_taken(chip, Payload::new(payload)), Ok(EventReply::Ack));
     }
-    answer_with(chip, handshake(verdict))
+    answer_with(chip, Ok(handshake(verdict)))
 }
 
-fn ep1_filled(mut e: Endpoint1, payload: &[u8]) -> Endpoint1
-    requires { (length payload.now ≤ 64) × (e.ring.waiting < 2) }
-    ensures { result ≡ ep1_filled e payload.now }
+fn ep1_filled(mut e: Endpoint1, payload: Payload) -> Endpoint1
+    requires { e.ring.waiting < 2 }
+    ensures { result ≡ ep1_filled e payload.entry }
 {
     let ring = e.ring;
-    e.ring = ring.fill_next(payload);
+    e.ring = ring.fill_next(payload.bytes);
     e.toggle = flipped(e.toggle);
     e
 }
 
-fn out1_taken(mut chip: Chip, payload: &[u8]) -> Chip
-    requires { (length payload.now ≤ 64) × (chip.ep1.ring.waiting < 2) }
-    ensures { result ≡ out1_taken chip payload.now }
+// As `out0_taken`, but no one function is plainer: the endpoints' records differ in type, and what is left in common is one bit's OR.
+fn out1_taken(mut chip: Chip, payload: Payload) -> Chip
+    requires { chip.ep1.ring.waiting < 2 }
+    ensures { result ≡ out1_taken chip payload.entry }
 {
     let ep1 = chip.ep1;
     let epirq = chip.registers.epirq | Chip::OUT1DAVIRQ;
@@ -128,7 +151,7 @@ pub fn out1(chip: Chip, data1: bool, payload: &[u8]) -> EventAnswer
 {
     let verdict = verdicts::out1_verdict(chip, data1);
     if let OutVerdict::Store = verdict {
-        return answer_with(out1_taken(chip, payload), EventReply::Ack);
+        return answer_with(out1_taken(chip, Payload::new(payload)), Ok(EventReply::Ack));
     }
-    answer_with(chip, handshake(verdict))
+    answer_with(chip, Ok(handshake(verdict)))
 }

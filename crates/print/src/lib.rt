@@ -1,39 +1,32 @@
-// What the small programs write on standard output: text, bytes, why a call is refused.
+// What the small programs write on standard output: text, and why a call is refused.
 #![tactic(auto)]
 
 use refusal::Refusal;
+use std::fmt;
 
 // A write that fails is let go: what these programs write is compared.
-pub fn put(rt: &impl Print, text: &[u8]) {
-    let _ = rt.write_all(text);
+pub fn say<D: fmt::Display + Drop>(rt: &impl Print, text: D) {
+    let _ = rt.print(text);
 }
 
-// A byte as two digits, after a space.
-pub fn put_byte(rt: &impl Print, byte: u8) {
-    let digits = b"0123456789ABCDEF";
-    put(
-        rt,
-        &[
-            b' ',
-            digits[(byte / 16) as usize],
-            digits[(byte % 16) as usize],
-        ],
-    );
-}
+// What a call is replied, or why it is refused: the refusal's number, and the length that a payload's refusal tells.
+#[derive(Clone, Copy)]
+pub struct Answered<R>(pub Result<R, Refusal>);
 
-pub fn put_bytes(rt: &impl Print, bytes: &[u8]) {
-    for i in 0..bytes.len() {
-        put_byte(rt, bytes[i]);
-    }
-}
-
-// The number of refusal, and the length that a payload's refusal tells.
-pub fn put_refusal(rt: &impl Print, refusal: Refusal) {
-    let number = refusal.number();
-    put(rt, b": refused");
-    put_byte(rt, number);
-    if (number == 6) | (number == 8) {
-        put(rt, b" found ");
-        let _ = rt.print(refusal.found());
+impl<R: fmt::Display> fmt::Display for Answered<R> {
+    fn fmt<W: fmt::Write>(&self, f: &mut fmt::Formatter<W>) -> fmt::Result {
+        match &self.0 {
+            Ok(reply) => write!(f, "{reply}"),
+            Err(refusal) => {
+                let number = refusal.number();
+                write!(f, ": refused {number:02X}")?;
+                match refusal {
+                    Refusal::OutPayload(found) | Refusal::SetupPayload(found) => {
+                        write!(f, " found {found}")
+                    }
+                    _ => Ok(()),
+                }
+            }
+        }
     }
 }

@@ -1,8 +1,7 @@
 -- A lesson that is being recorded keeps within what a lesson may have (document 02, Ask 5).
-use Rattle.std.specs.Prelude.{◌+◌, ◌*◌, ◌≤◌}
-use Rattle.recorder.specs.declared.Recording.{Recording}
+use Rattle.std.specs.Prelude.{ℕ, ◌+◌, ◌*◌, ◌≤◌}
 
--- at most 255 entries, and a file of at most 64 KiB
-pub record Fits (r : Recording) : Type 0 where
-  pub count : r.count ≤ 255
-  pub size : 2 + 11 * r.count + r.size ≤ 65536
+-- at most 255 entries, and a file of at most 64 KiB: so many entries, and so many bytes of bodies
+pub record Fits (entries bytes : ℕ) : Type 0 where
+  pub count : entries ≤ 255
+  pub size : 2 + 11 * entries + bytes ≤ 65536

@@ -1,4 +1,5 @@
 -- Which ground of refusal is given: each exactly when it applies and none before it does. An accepted call has no ground against it.
+use Rattle.std.specs.Prelude.{Ok, Err}
 use mathlib.Core.Path.{◌≡◌, refl, sym, ap, ◌∙◌}
 use mathlib.Core.Logic.{◌↔◌}
 use mathlib.Core.Bool.{Bool, true, false}
@@ -10,8 +11,7 @@ use Rattle.bits.proofs.First.{test_at, first_none, none_gives, FirstAt, outcome_
 use Rattle.refusal.specs.declared.Refusal.{Refusal}
 use Rattle.refusal.specs.declared.Refusal.TheVariants.{Unsound, NoCommand, LongTransfer, ShortBuffer, UnknownEvent, OutPayload}
 use Rattle.refusal.specs.declared.Refusal.TheVariants.{SetupPayload, BadAddress, NoDesk, DeskState, WrongKey, BadKey, NoLesson}
-use Rattle.refusal.specs.declared.Checked.{Checked}
-use Rattle.refusal.specs.declared.Checked.TheVariants.{Accepted, Refused}
+use Rattle.refusal.specs.Check.{Checked}
 use Rattle.refusal.specs.Number.{refusal_number, refusal_found, refusal_of}
 use Rattle.refusal.specs.Check.{ground, check, checked_place}
 
@@ -23,8 +23,8 @@ ground_test (g ∷ gs) (suc i) = ground_test gs i
 -- ---- an accepted call
 
 abbrev is_accepted : Checked → Bool
-is_accepted Accepted = true
-is_accepted (Refused r) = false
+is_accepted (Ok tt) = true
+is_accepted (Err r) = false
 
 -- a ground refuses
 grounds_refuse : (gs : List (Bool × Refusal)) → none_gives is_accepted (map ground gs) ≡ true
@@ -32,8 +32,8 @@ grounds_refuse [] = refl
 grounds_refuse (g ∷ gs) = grounds_refuse gs
 
 -- no ground of an accepted call applies
-pub accepted_none : (gs : List (Bool × Refusal)) → check gs ≡ Accepted → (i : ℕ) → test_at gs i ≡ false
-accepted_none gs e i = sym (ground_test gs i) ∙ first_none is_accepted (map ground gs) Accepted (grounds_refuse gs) (ap is_accepted e) i
+pub accepted_none : (gs : List (Bool × Refusal)) → check gs ≡ (Ok tt) → (i : ℕ) → test_at gs i ≡ false
+accepted_none gs e i = sym (ground_test gs i) ∙ first_none is_accepted (map ground gs) (Ok tt) (grounds_refuse gs) (ap is_accepted e) i
 
 -- ---- what a refusal tells
 
@@ -79,16 +79,16 @@ in_order gs = ascending checked_place 0 (map ground gs)
 
 -- the refusal of ground i
 abbrev pub refusal_at : List (Bool × Refusal) → ℕ → Checked
-refusal_at gs i = outcome_at Accepted (map ground gs) i
+refusal_at gs i = outcome_at (Ok tt) (map ground gs) i
 
 -- of grounds in the order of the paper, each is given exactly when it applies and none before it does
 pub check_exactly : (gs : List (Bool × Refusal)) → in_order gs ≡ true → (i : ℕ) → i < length gs → (check gs ≡ refusal_at gs i) ↔ FirstAt gs i
-check_exactly gs a i h = (given, λ f. first_at (map ground gs) Accepted i (there f))
+check_exactly gs a i h = (given, λ f. first_at (map ground gs) (Ok tt) i (there f))
   where
     there : FirstAt gs i → FirstAt (map ground gs) i
     there f = record { applies = ground_test gs i ∙ f.applies; before = λ j l. ground_test gs j ∙ f.before j l }
 
     given : check gs ≡ refusal_at gs i → FirstAt gs i
     given e =
-        let f = first_only checked_place 0 (map ground gs) Accepted i a (omega arith) (omega (arith, h, length-map gs ground)) (ap checked_place e) in
+        let f = first_only checked_place 0 (map ground gs) (Ok tt) i a (omega arith) (omega (arith, h, length-map gs ground)) (ap checked_place e) in
         record { applies = sym (ground_test gs i) ∙ f.applies; before = λ j l. sym (ground_test gs j) ∙ f.before j l }

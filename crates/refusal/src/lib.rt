@@ -4,7 +4,9 @@
 ghost use Rattle.std.specs.Prelude.{◌≡◌};
 ghost use Rattle.refusal.specs.Number.{refusal_number, refusal_found, refusal_of};
 
-#[derive(Clone, Copy)]
+use std::fmt;
+
+#[derive(Clone, Copy, Debug, PartialEq, Eq)]
 pub enum Refusal {
     // A record passed in is not sound.
     Unsound,
@@ -34,14 +36,19 @@ pub enum Refusal {
     NoLesson(usize),
 }
 
-// Whether a call is accepted, or why not.
-#[derive(Clone, Copy)]
-pub enum Checked {
-    Accepted,
-    Refused(Refusal),
+// Its number and, of a payload, the length that was found.
+impl fmt::Display for Refusal {
+    fn fmt<W: fmt::Write>(&self, f: &mut fmt::Formatter<W>) -> fmt::Result {
+        write!(f, "refused {}", self.number())?;
+        match self {
+            Refusal::OutPayload(n) | Refusal::SetupPayload(n) => write!(f, " found {n}"),
+            _ => Ok(()),
+        }
+    }
 }
 
 impl Refusal {
+    // `number` and `found` each give one of the two numbers that C programs read; a `From` would say neither's name.
     pub fn number(self) -> u8
         ensures { result ≡ refusal_number self }
     {
@@ -51,14 +58,14 @@ impl Refusal {
             Refusal::LongTransfer => 3,
             Refusal::ShortBuffer => 4,
             Refusal::UnknownEvent => 5,
-            Refusal::OutPayload(_n) => 6,
-            Refusal::SetupPayload(_n) => 8,
+            Refusal::OutPayload(_) => 6,
+            Refusal::SetupPayload(_) => 8,
             Refusal::BadAddress => 7,
             Refusal::NoDesk => 9,
             Refusal::DeskState => 10,
             Refusal::WrongKey => 11,
             Refusal::BadKey => 12,
-            Refusal::NoLesson(_n) => 13,
+            Refusal::NoLesson(_) => 13,
         }
     }
 
@@ -67,23 +74,14 @@ impl Refusal {
         ensures { result ≡ refusal_found self }
     {
         match self {
-            Refusal::Unsound => 0,
-            Refusal::NoCommand => 0,
-            Refusal::LongTransfer => 0,
-            Refusal::ShortBuffer => 0,
-            Refusal::UnknownEvent => 0,
             Refusal::OutPayload(n) => n,
             Refusal::SetupPayload(n) => n,
-            Refusal::BadAddress => 0,
-            Refusal::NoDesk => 0,
-            Refusal::DeskState => 0,
-            Refusal::WrongKey => 0,
-            Refusal::BadKey => 0,
             Refusal::NoLesson(n) => n,
+            _ => 0,
         }
     }
 
-    // The refusal of this number, with the length or the entry where it tells one.
+    // Of the two numbers that a C program's answer has: the refusal of this number, with the length or the entry where it tells one.
     pub fn numbered(number: u8, found: usize) -> Self
         ensures { result ≡ refusal_of number found }
     {

@@ -7,7 +7,7 @@ use Rattle.chip.specs.declared.Chip.{Chip}
 use Rattle.chip.specs.Record.{power_on_chip}
 use Rattle.model.specs.Call.{Answer, call_to, answer_of, history}
 use Rattle.rules.specs.Event.{max3420e}
-use Rattle.lesson.specs.Lesson.{LessonEntry, bodies}
+use Rattle.lesson.specs.Lesson.{LessonEntry, bodies, table, table_end, file_of}
 use Rattle.lesson.specs.Read.{lesson_of, entries_of}
 use Rattle.lesson.proofs.Count.{accepted_lesson, bodies_most, headed_size}
 use Rattle.replay.specs.Results.{call_of, result_of, results}
@@ -37,6 +37,11 @@ unfolding played_bytes
 played_most f n h =
     let l : List LessonEntry = entries_of (lesson_of f) in
     omega (arith, left_most power_on_chip l, bodies_most f l (accepted_lesson f h.accepted), h.count)
+
+-- the same of the lesson's own file
+pub most_file : (l : List LessonEntry) → length (played_bytes l) ≤ enough_room (length l) (length (file_of l))
+unfolding played_bytes file_of
+most_file l = omega (arith, left_most power_on_chip l, length-append (table (table_end (length l)) l) (bodies l))
 
 -- and for every lesson
 pub enough_most : (f : List ℕ) (n : ℕ) → Counted f n → enough_room n (length f) ≤ 82876

@@ -1,4 +1,5 @@
 -- A call's answer in numbers is the model's answer in numbers; and how many bytes it has.
+use Rattle.std.specs.Prelude.{Ok, Err}
 use mathlib.Core.Path.{◌≡◌, refl, ap, ◌∙◌}
 use mathlib.Core.Bool.{true, false}
 use mathlib.Core.List.{List}
@@ -9,8 +10,7 @@ use lib.ListN.{length, take, drop}
 use lib.Seq.{take-append_seam}
 use borrow.Author.Tests.{ltb-false}
 use Rattle.bits.proofs.Cases.{cond_elim}
-use Rattle.refusal.specs.declared.Checked.{Checked}
-use Rattle.refusal.specs.declared.Checked.TheVariants.{Accepted, Refused}
+use Rattle.refusal.specs.Check.{Checked}
 use Rattle.refusal.specs.Check.{checked_number}
 use Rattle.refusal.proofs.Check.{accepted_none}
 use Rattle.chip.specs.declared.Chip.{Chip}
@@ -29,7 +29,7 @@ use Rattle.bus.proofs.Accepted.{accepted_sound}
 use Rattle.bus.proofs.Call.{refusal_of_law, pid_of}
 use Rattle.bus.proofs.Replies.{Packet, event_packet}
 use Rattle.event_body.specs.Body.{event_of, payload_of}
-use Rattle.flat.specs.Answer.{flat_transfer, flat_event}
+use Rattle.flat.specs.Answer.{flat_answer_of}
 use Rattle.replay.specs.Results.{call_with, answer_refusal, answer_bytes, flat_answer}
 
 -- ---- the numbers
@@ -47,10 +47,10 @@ CallNumbered c k =
 transfer_numbered : (c : Chip) (bytes : List ℕ) (room : ℕ) (v : Checked)
     → let a = checked_answer max3420e c (transfer bytes room) v in
     Numbered a (transfer_refusal (transfer_reply_of a)) 0 (transfer_count (transfer_reply_of a))
-transfer_numbered c bytes room Accepted = record { refusal = refl; pid = refl; count = refl }
-transfer_numbered c bytes room (Refused r) = record { refusal = refl; pid = refl; count = refl }
+transfer_numbered c bytes room (Ok tt) = record { refusal = refl; pid = refl; count = refl }
+transfer_numbered c bytes room (Err r) = record { refusal = refl; pid = refl; count = refl }
 
-packet_count : (a : Reply) → Packet a → event_count (event_reply a) ≡ length (reply_bytes a)
+packet_count : (a : Reply) → Packet a → event_count (Ok (event_reply a)) ≡ length (reply_bytes a)
 packet_count (transferred vs) h = absurd h
 packet_count done h = refl
 packet_count silence h = refl
@@ -62,21 +62,21 @@ packet_count (sent false vs) h = refl
 
 -- the number of the check
 checked_refusal : (c : Chip) (k : Call) (v : Checked) → checked_number v ≡ answer_refusal (checked_answer max3420e c k v)
-checked_refusal c k Accepted = refl
-checked_refusal c k (Refused r) = refl
+checked_refusal c k (Ok tt) = refl
+checked_refusal c k (Err r) = refl
 
-event_counted : (c : Chip) (e : Event) (vs : List ℕ) (room : ℕ) (v : Checked) → (v ≡ Accepted → Packet (event_outcome c e vs).gives)
+event_counted : (c : Chip) (e : Event) (vs : List ℕ) (room : ℕ) (v : Checked) → (v ≡ (Ok tt) → Packet (event_outcome c e vs).gives)
     → event_count (event_reply_of (checked_answer max3420e c (event e vs room) v)) ≡ length (answer_bytes (checked_answer max3420e c (event e vs room) v))
-event_counted c e vs room Accepted packet = packet_count (event_outcome c e vs).gives (packet refl)
-event_counted c e vs room (Refused r) packet = refl
+event_counted c e vs room (Ok tt) packet = packet_count (event_outcome c e vs).gives (packet refl)
+event_counted c e vs room (Err r) packet = refl
 
 -- an accepted event has a packet's bytes at the most: its record is sound
-accepted_packet : (c : Chip) (e : Event) (vs : List ℕ) (room : ℕ) → checked max3420e c (event e vs room) ≡ Accepted
+accepted_packet : (c : Chip) (e : Event) (vs : List ℕ) (room : ℕ) → checked max3420e c (event e vs room) ≡ (Ok tt)
     → Packet (event_outcome c e vs).gives
 accepted_packet c e vs room h = event_packet c e vs (accepted_sound (sound_chip c) e (length vs) room h)
 
 pub call_numbered : (c : Chip) (k : Call) → CallNumbered c k
-unfolding answer_of flat_transfer flat_event
+unfolding answer_of flat_answer_of
 call_numbered c (transfer bytes room) = transfer_numbered c bytes room (checked max3420e c (transfer bytes room))
 call_numbered c (event e vs room) =
     let k = event e vs room in
@@ -87,7 +87,7 @@ call_numbered c (event e vs room) =
     }
 
 pub call_chip : (c : Chip) (k : Call) → (flat_answer c k).chip ≡ call_to max3420e c k
-unfolding flat_transfer flat_event
+unfolding flat_answer_of
 call_chip c (transfer bytes room) = refl
 call_chip c (event e vs room) = refl
 
@@ -113,9 +113,9 @@ packet_most stall h = omega arith
 packet_most (sent data1 vs) h = h
 
 answer_most : (c : Chip) (k : Call) (v : Checked) → checked max3420e c k ≡ v → length (answer_bytes (checked_answer max3420e c k v)) ≤ most_bytes k
-answer_most c (transfer bytes room) Accepted h = omega (arith, transfer_length max3420e_spi c bytes)
-answer_most c (event e vs room) Accepted h = packet_most (event_outcome c e vs).gives (accepted_packet c e vs room h)
-answer_most c k (Refused r) h = omega arith
+answer_most c (transfer bytes room) (Ok tt) h = omega (arith, transfer_length max3420e_spi c bytes)
+answer_most c (event e vs room) (Ok tt) h = packet_most (event_outcome c e vs).gives (accepted_packet c e vs room h)
+answer_most c k (Err r) h = omega arith
 
 pub bytes_most : (c : Chip) (k : Call) → length (answer_bytes (answer_of max3420e c k)) ≤ most_bytes k
 unfolding answer_of
@@ -130,13 +130,13 @@ entry_most c room kind body =
 -- and no more than were lent
 transfer_fits : (c : Chip) (bytes : List ℕ) (room : ℕ) (v : Checked) → checked max3420e c (transfer bytes room) ≡ v
     → length (answer_bytes (checked_answer max3420e c (transfer bytes room) v)) ≤ room
-transfer_fits c bytes room Accepted h =
+transfer_fits c bytes room (Ok tt) h =
     omega (
       arith,
       transfer_length max3420e_spi c bytes,
       ltb-false room (length bytes) (accepted_none (transfer_grounds (sound_chip c) (length bytes) room) h 3),
     )
-transfer_fits c bytes room (Refused r) h = omega arith
+transfer_fits c bytes room (Err r) h = omega arith
 
 transfer_within : (c : Chip) (bytes : List ℕ) (room : ℕ) → length (answer_bytes (answer_of max3420e c (transfer bytes room))) ≤ room
 unfolding answer_of

@@ -1,5 +1,6 @@
 -- Replay of a lesson. Playing is making all calls one by one from power-on: so demand 3 holds after every lesson, and every record
 -- that a replay hands back is sound. Each call is lent enough: more room changes nothing. The theorems assume nothing of a file.
+use Rattle.std.specs.Prelude.{Ok, Err}
 use mathlib.Core.Path.{◌≡◌, refl, sym, ap, ap₂, ◌∙◌, subst}
 use mathlib.Core.Logic.{◌↔◌}
 use mathlib.Core.Bool.{Bool, true, false, cond}
@@ -11,8 +12,7 @@ use lib.Dec.{eqb, ltb}
 use lib.ListN.{length}
 use borrow.Author.Tests.{lt-ltb, le-ltb, ltb-true}
 use Rattle.refusal.specs.declared.Refusal.TheVariants.{ShortBuffer, NoLesson}
-use Rattle.refusal.specs.declared.Checked.{Checked}
-use Rattle.refusal.specs.declared.Checked.TheVariants.{Accepted, Refused}
+use Rattle.refusal.specs.Check.{Checked}
 use Rattle.refusal.specs.Check.{check}
 use Rattle.chip.specs.declared.Chip.{Chip}
 use Rattle.chip.specs.Record.{power_on_chip}
@@ -37,40 +37,40 @@ unfolding played_to
 played_demand3 l = demand3 (calls_of l)
 
 -- a replay that is accepted hands back the record after the lesson
-accepted_chip : (f : List ℕ) (room : ℕ) → replay_checked f room ≡ Accepted → (replay_answer f room).chip ≡ played_to (entries_of (lesson_of f))
+accepted_chip : (f : List ℕ) (room : ℕ) → replay_checked f room ≡ (Ok tt) → (replay_answer f room).state ≡ played_to (entries_of (lesson_of f))
 accepted_chip f room h = rw h
 
 -- so that demand 3 holds of it
-pub replay_demand3 : (f : List ℕ) (room : ℕ) → replay_checked f room ≡ Accepted
-    → Demand3Of (history max3420e power_on_chip (calls_of (entries_of (lesson_of f)))) (replay_answer f room).chip
+pub replay_demand3 : (f : List ℕ) (room : ℕ) → replay_checked f room ≡ (Ok tt)
+    → Demand3Of (history max3420e power_on_chip (calls_of (entries_of (lesson_of f)))) (replay_answer f room).state
 replay_demand3 f room h =
     subst (Demand3Of (history max3420e power_on_chip (calls_of (entries_of (lesson_of f))))) (sym (accepted_chip f room h))
     (played_demand3 (entries_of (lesson_of f)))
 
 -- every record that a replay hands back is sound: that of power-on too, where it is refused
-pub replay_sound : (f : List ℕ) (room : ℕ) → sound_chip (replay_answer f room).chip ≡ true
+pub replay_sound : (f : List ℕ) (room : ℕ) → sound_chip (replay_answer f room).state ≡ true
 unfolding played_to run_to
 replay_sound f room = of (replay_checked f room)
   where
-    of : (v : Checked) → sound_chip (replay_answer_of v (entries_of (lesson_of f))).chip ≡ true
-    of Accepted = reached_sound (calls_of (entries_of (lesson_of f)))
-    of (Refused r) = reached_sound []
+    of : (v : Checked) → sound_chip (replay_answer_of v (entries_of (lesson_of f))).state ≡ true
+    of (Ok tt) = reached_sound (calls_of (entries_of (lesson_of f)))
+    of (Err r) = reached_sound []
 
 -- ---- when a replay is refused
 
 -- 13 for what is no lesson, naming the entry that the file's check names
-pub refused_13 : (f : List ℕ) (room i : ℕ) → lesson_of f ≡ no_lesson i → replay_checked f room ≡ Refused (NoLesson i)
+pub refused_13 : (f : List ℕ) (room i : ℕ) → lesson_of f ≡ no_lesson i → replay_checked f room ≡ Err (NoLesson i)
 refused_13 f room i h = ap (λ (x : Reading). reading_plays x room) h
 
 -- else 4 exactly where what is to be written does not fit
 pub refused_4 : (f : List ℕ) (l : List LessonEntry) (room : ℕ) → lesson_of f ≡ lesson l
-    → (replay_checked f room ≡ Refused ShortBuffer) ↔ (room < length (played_bytes l))
+    → (replay_checked f room ≡ Err ShortBuffer) ↔ (room < length (played_bytes l))
 refused_4 f l room h = (
   λ e. ltb-true room (length (played_bytes l)) (short (ltb room (length (played_bytes l))) (sym (ap (λ (x : Reading). reading_plays x room) h) ∙ e)),
   λ less. ap (λ (x : Reading). reading_plays x room) h ∙ rw (lt-ltb room (length (played_bytes l)) less),
 )
   where
-    short : (t : Bool) → check ((t, ShortBuffer) ∷ []) ≡ Refused ShortBuffer → t ≡ true
+    short : (t : Bool) → check ((t, ShortBuffer) ∷ []) ≡ Err ShortBuffer → t ≡ true
     short true e = refl
     short false e = cc
 
@@ -103,14 +103,14 @@ alike c j k e same =
 transfer_same : (c : Chip) (bytes : List ℕ) (m n : ℕ) (v : Checked)
     → (checked_answer max3420e c (transfer bytes m) v ≡ checked_answer max3420e c (transfer bytes n) v)
     × (checked_to max3420e c (transfer bytes m) v ≡ checked_to max3420e c (transfer bytes n) v)
-transfer_same c bytes m n Accepted = (refl, refl)
-transfer_same c bytes m n (Refused r) = (refl, refl)
+transfer_same c bytes m n (Ok tt) = (refl, refl)
+transfer_same c bytes m n (Err r) = (refl, refl)
 
 event_same : (c : Chip) (e : Event) (vs : List ℕ) (m n : ℕ) (v : Checked)
     → (checked_answer max3420e c (event e vs m) v ≡ checked_answer max3420e c (event e vs n) v)
     × (checked_to max3420e c (event e vs m) v ≡ checked_to max3420e c (event e vs n) v)
-event_same c e vs m n Accepted = (refl, refl)
-event_same c e vs m n (Refused r) = (refl, refl)
+event_same c e vs m n (Ok tt) = (refl, refl)
+event_same c e vs m n (Err r) = (refl, refl)
 
 -- an entry's call answers with any room of 4,096 bytes or more as it does with 4,096
 pub lent_enough : (c : Chip) (room : ℕ) (e : LessonEntry) → 4096 ≤ room → Alike c (call_with room e.kind e.body) (call_of e)

@@ -1,11 +1,10 @@
 -- The loop over the entries of a lesson: before entry i, what is still to be played and to be written makes the whole.
 use mathlib.Core.Path.{◌≡◌, refl, sym, ap, ◌∙◌}
 use mathlib.Core.List.{List, [], ◌∷◌, ◌++◌}
-use Prim.Native.Nat.{ℕ, ◌+◌, ◌*◌, ◌≤◌, ◌<◌}
-use native.Mathlib.Numerals.{add-one}
+use Prim.Native.Nat.{ℕ, ◌+◌, ◌≤◌}
 use native.Mathlib.Omega.{arith}
-use lib.ListN.{length, get_or, drop, length-append, drop_of_length-le}
-use lib.Seq.{sets, drop-cons, length-sets}
+use lib.ListN.{length, length-append}
+use lib.Seq.{sets, length-sets}
 use Rattle.chip.specs.declared.Chip.{Chip}
 use Rattle.chip.specs.Record.{power_on_chip}
 use Rattle.model.specs.Reply.{lent}
@@ -25,50 +24,43 @@ left_bytes c es = results (history max3420e c (calls_of es))
 pub result_length : (refusal pid : ℕ) (bytes : List ℕ) → 4 + length bytes ≡ length (result_with refusal pid bytes)
 result_length refusal pid bytes = omega arith
 
-pub record Turn (l : List LessonEntry) (i : ℕ) (c : Chip) (filled : ℕ) (out out₀ : List ℕ) : Type 0 where
-  pub within : i ≤ length l
-  pub small : filled ≤ 4100 * i
+pub record Turn (l es : List LessonEntry) (c : Chip) (filled : ℕ) (out out₀ : List ℕ) : Type 0 where
   pub sized : length out ≡ length out₀
-  pub chip : run_to max3420e c (calls_of (drop i l)) ≡ played_to l
-  pub size : filled + length (left_bytes c (drop i l)) ≡ length (played_bytes l)
-  pub written : sets out filled (left_bytes c (drop i l)) ≡ sets out₀ 0 (played_bytes l)
+  pub chip : run_to max3420e c (calls_of es) ≡ played_to l
+  pub size : filled + length (left_bytes c es) ≡ length (played_bytes l)
+  pub written : sets out filled (left_bytes c es) ≡ sets out₀ 0 (played_bytes l)
 
-pub start : (l : List LessonEntry) (out : List ℕ) → Turn l 0 power_on_chip 0 out out
+pub start : (l : List LessonEntry) (out : List ℕ) → Turn l l power_on_chip 0 out out
 unfolding played_bytes played_to
-start l out = record { within = omega arith; small = omega arith; sized = refl; chip = refl; size = omega arith; written = refl }
+start l out = record { sized = refl; chip = refl; size = omega arith; written = refl }
 
 -- ---- one entry
 
-module _ (l : List LessonEntry) (i : ℕ) (c : Chip) (filled : ℕ) (out out₀ : List ℕ) (none : LessonEntry) (more : i < length l) where
+module _ (l es : List LessonEntry) (e : LessonEntry) (c : Chip) (filled : ℕ) (out out₀ : List ℕ) where
   abbrev pub here : Call
-  here = call_of (get_or l i none)
+  here = call_of e
 
   abbrev pub answer : Answer
   answer = answer_of max3420e c here
 
-  opened : drop i l ≡ get_or l i none ∷ drop (i + 1) l
-  opened = drop-cons l i none more ∙ ap (λ (n : ℕ). get_or l i none ∷ drop n l) (sym (add-one i))
-
-  left_run : run_to max3420e c (calls_of (drop i l)) ≡ run_to max3420e (call_to max3420e c here) (calls_of (drop (i + 1) l))
+  left_run : run_to max3420e c (calls_of (e ∷ es)) ≡ run_to max3420e (call_to max3420e c here) (calls_of es)
   unfolding run_to call_to
-  left_run = ap (λ (es : List LessonEntry). run_to max3420e c (calls_of es)) opened
-
-  left_bytes_law : left_bytes c (drop i l) ≡ result_of answer ++ left_bytes (call_to max3420e c here) (drop (i + 1) l)
-  unfolding history results answer_of
-  left_bytes_law = ap (λ (es : List LessonEntry). left_bytes c es) opened
+  left_run = refl
 
   abbrev pub rest : List ℕ
-  rest = left_bytes (call_to max3420e c here) (drop (i + 1) l)
+  rest = left_bytes (call_to max3420e c here) es
+
+  left_bytes_law : left_bytes c (e ∷ es) ≡ result_of answer ++ rest
+  unfolding history results answer_of
+  left_bytes_law = refl
 
   -- its result is a part of the whole
-  pub total : Turn l i c filled out out₀ → filled + (4 + length (answer_bytes answer)) + length rest ≡ length (played_bytes l)
+  pub total : Turn l (e ∷ es) c filled out out₀ → filled + (4 + length (answer_bytes answer)) + length rest ≡ length (played_bytes l)
   total t = omega (arith, t.size, ap length left_bytes_law, length-append (result_of answer) rest)
 
-  pub turn : Turn l i c filled out out₀ → length (answer_bytes answer) ≤ 4096
-      → Turn l (i + 1) (call_to max3420e c here) (filled + (4 + length (answer_bytes answer))) (sets out filled (result_of answer)) out₀
-  turn t few = record {
-    within = omega arith;
-    small = omega (arith, t.small);
+  pub turn : Turn l (e ∷ es) c filled out out₀
+      → Turn l es (call_to max3420e c here) (filled + (4 + length (answer_bytes answer))) (sets out filled (result_of answer)) out₀
+  turn t = record {
     sized = length-sets out filled (result_of answer) ∙ t.sized;
     chip = sym left_run ∙ t.chip;
     size = total t;
@@ -82,17 +74,14 @@ module _ (l : List LessonEntry) (i : ℕ) (c : Chip) (filled : ℕ) (out out₀ 
 
 -- ---- after the last
 
-module _ (l : List LessonEntry) (i : ℕ) (c : Chip) (filled : ℕ) (out out₀ : List ℕ) (t : Turn l i c filled out out₀) (over : length l ≤ i) where
-  none_left : drop i l ≡ []
-  none_left = drop_of_length-le l {i = i} over
-
+module _ (l : List LessonEntry) (c : Chip) (filled : ℕ) (out out₀ : List ℕ) (t : Turn l [] c filled out out₀) where
   pub last_chip : c ≡ played_to l
   unfolding run_to
-  last_chip = ap (λ (es : List LessonEntry). run_to max3420e c (calls_of es)) (sym none_left) ∙ t.chip
+  last_chip = t.chip
 
-  nothing : left_bytes c (drop i l) ≡ []
+  nothing : left_bytes c [] ≡ []
   unfolding history results
-  nothing = ap (λ (es : List LessonEntry). left_bytes c es) none_left
+  nothing = refl
 
   pub last_size : filled ≡ length (played_bytes l)
   last_size = omega (arith, t.size, ap length nothing)

@@ -1,11 +1,10 @@
 -- What the functions of a replay ask of their callers: a lesson's file, and room that is always enough.
-use Rattle.std.specs.Prelude.{◌≡◌, List, ℕ, ◌+◌, ◌*◌, ◌≤◌, length}
-use Rattle.refusal.specs.declared.Checked.TheVariants.{Accepted}
+use Rattle.std.specs.Prelude.{◌≡◌, List, ℕ, ◌+◌, ◌*◌, ◌≤◌, length, Ok}
 use Rattle.lesson.specs.Read.{lesson_of, entries_of, reading_checked}
 
 -- a lesson's file, and how many entries it has
 pub record Counted (file : List ℕ) (n : ℕ) : Type 0 where
-  pub accepted : reading_checked (lesson_of file) ≡ Accepted
+  pub accepted : reading_checked (lesson_of file) ≡ (Ok tt)
   pub count : n ≡ length (entries_of (lesson_of file))
   pub few : n ≤ 255
 

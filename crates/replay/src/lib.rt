@@ -7,38 +7,23 @@ ghost use Rattle.std.proofs.lemmas.List.Edits.{sets};
 ghost use Rattle.model.specs.Reply.{lent};
 ghost use Rattle.model.specs.Call.{answer_of, buffer_after};
 ghost use Rattle.rules.specs.Event.{max3420e};
-ghost use Rattle.lesson.specs.Read.{lesson_of, entries_of};
+ghost use Rattle.lesson.specs.Kind.{kind_number};
 ghost use Rattle.replay.specs.Results.{call_with, result_with, flat_answer};
-ghost use Rattle.replay.specs.Replay.{played_bytes, played_to, replay_answer_with, replay_answer, replay_buffer};
-ghost use Rattle.replay.specs.Room.{Counted, enough_room};
+ghost use Rattle.replay.specs.Replay.{played_bytes, played_to, lesson_plays, replay_answer_with, replay_answer_of, replay_buffer_of, replay_answer, replay_buffer};
 
-use chip::{Chip, Pin};
+use chip::{CallAnswer, Chip};
 use flat::FlatAnswer;
-use refusal::{Checked, Refusal};
+use lesson::{EntryKind, Lesson};
+use refusal::Refusal;
 
-// What a lesson is replied: a refusal, or how many bytes are written.
-#[derive(Clone, Copy)]
-pub enum ReplayReply {
-    Refused(Refusal),
-    Played(usize),
-}
-
-// The record after the lesson, the reply, and the INT pin.
-#[derive(Clone, Copy)]
-pub struct ReplayAnswer {
-    pub chip: Chip,
-    pub reply: ReplayReply,
-    pub pin: Pin,
-}
+// The reply is how many bytes are written.
+pub type ReplayAnswer = CallAnswer<Chip, usize>;
 
 // The bytes lent to each call.
 const ROOM: usize = 4096;
 
 // No lesson is answered with more bytes: its file has 65,536 at the most, and 68 come for each of 255 entries.
 const MOST: usize = 82876;
-
-// A kind of entry: a transfer.
-const TRANSFER: u8 = 1;
 
 // What the calls of a lesson leave so far: the record, and how many bytes they are answered with.
 #[derive(Clone, Copy)]
@@ -47,17 +32,20 @@ struct Run {
     size: usize,
 }
 
-// The call of an entry, its reply in the lent bytes.
-fn play(chip: Chip, kind: u8, body: &[u8], reply: &mut [u8]) -> FlatAnswer
-    ensures { (result ≡ flat_answer chip (call_with (length reply.old) kind body.now))
+// The call of an entry of that kind and body, its reply in the lent bytes.
+fn play(chip: Chip, kind: EntryKind, body: &[u8], reply: &mut [u8]) -> FlatAnswer
+    ensures { (result ≡ flat_answer chip (call_with (length reply.old) (kind_number kind) body.now))
         × (reply.new
-        ≡ buffer_after (answer_of max3420e chip (call_with (length reply.old) kind body.now)) reply.old) }
+        ≡ buffer_after (answer_of max3420e chip (call_with (length reply.old) (kind_number kind) body.now)) reply.old) }
 {
-    if kind == TRANSFER {
-        return flat::flat_transfer(spi::transfer(chip, body, reply));
+    match kind {
+        EntryKind::Transfer => flat::flat_answer(spi::transfer(chip, body, reply)),
+        EntryKind::Event => {
+            let event = event_body::event_of(body);
+            let payload = event_body::payload_of(body);
+            flat::flat_answer(bus::event(chip, event, payload, reply))
+        }
     }
-    let event = event_body::event_of(body);
-    flat::flat_event(bus::event(chip, event, event_body::payload_of(body), reply))
 }
 
 // The result of a call, at its place.
@@ -72,75 +60,78 @@ fn put_result(output: &mut [u8], at: usize, refusal: u8, pid: u8, bytes: &[u8])
 }
 
 // Makes all calls of a lesson from power-on, and writes what they are answered.
-fn play_all(file: &[u8], n: usize, output: &mut [u8]) -> Run
-    requires { Counted file.now n × (enough_room n (length file.now) ≤ length output.old) }
-    ensures { (result.chip ≡ played_to (entries_of (lesson_of file.now)))
-        × (result.size ≡ length (played_bytes (entries_of (lesson_of file.now))))
-        × (output.new ≡ lent (played_bytes (entries_of (lesson_of file.now))) output.old) }
+fn play_all(lesson: &Lesson, output: &mut [u8]) -> Run
+    requires { length (played_bytes lesson.now) ≤ length output.old }
+    ensures { (result.chip ≡ played_to lesson.now)
+        × (result.size ≡ length (played_bytes lesson.now))
+        × (output.new ≡ lent (played_bytes lesson.now) output.old) }
 {
     let mut reply = [0u8; ROOM];
     let mut run = Run {
         chip: Chip::power_on(),
         size: 0,
     };
-    let mut i: usize = 0;
-    while i < n {
-        let kind = lesson::kind_at(file, i);
-        let answer = play(run.chip, kind, lesson::body_at(file, i), &mut reply);
+    for entry in lesson.entries() {
+        let answer = play(run.chip, entry.kind, entry.body, &mut reply);
         let count = answer.count as usize;
-        let size = run.size;
-        put_result(output, size, answer.refusal, answer.pid, &reply[..count]);
-        let chip = answer.chip;
-        run = Run {
-            chip,
-            size: size + (4 + count),
-        };
-        i = i + 1;
+        put_result(
+            output,
+            run.size,
+            answer.refusal,
+            answer.pid,
+            &reply[..count],
+        );
+        run.chip = answer.chip;
+        run.size += 4 + count;
     }
     run
 }
 
-fn answer_with(chip: Chip, reply: ReplayReply) -> ReplayAnswer
+fn answer_with(chip: Chip, reply: Result<usize, Refusal>) -> ReplayAnswer
     ensures { result ≡ replay_answer_with chip reply }
 {
-    let g = chip.registers;
-    let pin = g.pin();
-    ReplayAnswer { chip, reply, pin }
+    let registers = chip.registers;
+    CallAnswer {
+        state: chip,
+        reply,
+        pin: registers.pin(),
+    }
 }
 
 // Plays a lesson where the room may be too short: what its calls are answered is kept until it is known to fit.
-fn play_kept(file: &[u8], n: usize, output: &mut [u8]) -> ReplayAnswer
-    requires { Counted file.now n }
-    ensures { (result ≡ replay_answer file.now (length output.old))
-        × (output.new ≡ replay_buffer file.now output.old) }
+fn play_kept(lesson: &Lesson, output: &mut [u8]) -> ReplayAnswer
+    requires { length (played_bytes lesson.now) ≤ MOST }
+    ensures { (result ≡ replay_answer_of (lesson_plays lesson.now (length output.old)) lesson.now)
+        × (output.new ≡ replay_buffer_of (lesson_plays lesson.now (length output.old)) lesson.now output.old) }
 {
     let mut kept = [0u8; MOST];
-    let run = play_all(file, n, &mut kept);
+    let run = play_all(lesson, &mut kept);
     let size = run.size;
     if output.len() < size {
-        return answer_with(Chip::power_on(), ReplayReply::Refused(Refusal::ShortBuffer));
+        return answer_with(Chip::power_on(), Err(Refusal::ShortBuffer));
     }
     little_endian::put_bytes(output, 0, &kept[..size]);
-    answer_with(run.chip, ReplayReply::Played(size))
+    answer_with(run.chip, Ok(size))
+}
+
+fn play_lesson(lesson: &Lesson, output: &mut [u8]) -> ReplayAnswer
+    ensures { (result ≡ replay_answer_of (lesson_plays lesson.now (length output.old)) lesson.now)
+        × (output.new ≡ replay_buffer_of (lesson_plays lesson.now (length output.old)) lesson.now output.old) }
+{
+    // Room that is always enough: for each entry four bytes and a packet, and the bodies.
+    if 68 * lesson.len() + lesson.size() <= output.len() {
+        let run = play_all(lesson, output);
+        return answer_with(run.chip, Ok(run.size));
+    }
+    play_kept(lesson, output)
 }
 
 pub fn replay(file: &[u8], output: &mut [u8]) -> ReplayAnswer
     ensures { (result ≡ replay_answer file.now (length output.old))
         × (output.new ≡ replay_buffer file.now output.old) }
 {
-    match lesson::check(file) {
-        Checked::Refused(refusal) => {
-            answer_with(Chip::power_on(), ReplayReply::Refused(refusal))
-        }
-        Checked::Accepted => {
-            let n = lesson::entry_count(file);
-            // Room that is always enough: for each entry four bytes and a packet, and the bodies.
-            if 68 * n + file.len() <= output.len() {
-                let run = play_all(file, n, output);
-                let size = run.size;
-                return answer_with(run.chip, ReplayReply::Played(size));
-            }
-            play_kept(file, n, output)
-        }
+    match Lesson::new(file) {
+        Err(refusal) => answer_with(Chip::power_on(), Err(refusal)),
+        Ok(lesson) => play_lesson(&lesson, output),
     }
 }

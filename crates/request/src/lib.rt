@@ -12,7 +12,7 @@ use descriptor::Data;
 
 // The configuration, whether remote wakeup is enabled, and whether endpoint 3 is halted.
 #[repr(C)]
-#[derive(Clone, Copy)]
+#[derive(Clone, Copy, PartialEq, Eq)]
 pub struct Firmware {
     pub configuration: u8,
     pub wakeup: u8, // a flag: 1 is on, 0 is off
@@ -103,12 +103,6 @@ fn accept_if(ok: bool, next: Firmware, endpoints: Endpoints) -> Decision
     }
 }
 
-fn select(flag: bool, set: u8, clear: u8) -> u8
-    ensures { result ≡ cond flag set clear }
-{
-    if flag { set } else { clear }
-}
-
 // Reads from the device: GET_STATUS, GET_DESCRIPTOR, GET_CONFIGURATION.
 #[tactic(auto, unfolding(crate::specs::Request::decision_of))]
 fn read_device(request: Request, firmware: Firmware) -> Decision
@@ -121,7 +115,7 @@ fn read_device(request: Request, firmware: Firmware) -> Decision
     match code {
         0x00 => send_if(
             fields(request, 0, 0),
-            Data::Status(select(firmware.wakeup == 1, 3, 1)),
+            Data::Status(if firmware.wakeup == 1 { 3 } else { 1 }),
         ),
         0x06 => match descriptor_type {
             0x01 => send_if(plain(request), Data::Device),
@@ -169,7 +163,7 @@ fn read_endpoint(request: Request, firmware: Firmware) -> Decision
             }
             send_if(
                 fields(request, 0, 0x83) & (firmware.configuration == 1),
-                Data::Status(select(firmware.halted == 1, 1, 0)),
+                Data::Status(if firmware.halted == 1 { 1 } else { 0 }),
             )
         }
         0x01..=0xFF => Decision::Stall,

@@ -1,4 +1,5 @@
-// The three resets of the record, driven by one table of reset lines with a row for each of R5 to R20.
+// The three resets of the record, driven by one table of reset lines with a row for each of R5 to R20. Each endpoint has a function of its
+// own, since its record has: C programs hold them so.
 #![tactic(auto)]
 
 ghost use Rattle.std.specs.Prelude.{◌≡◌, ◌≤◌, ◌<◌};

@@ -7,7 +7,7 @@ ghost use Rattle.ring.specs.Ring.{empty_ring, drained, sound_ring, next_buffer, 
 ghost use Rattle.ring.specs.Ring.{oldest_packet, store_byte, arm_next, fill_next, release_oldest};
 
 #[repr(C)]
-#[derive(Clone, Copy)]
+#[derive(Clone, Copy, PartialEq, Eq)]
 pub struct Ring {
     // Buffer i stands at 64 * i.
     pub bytes: [u8; 128],

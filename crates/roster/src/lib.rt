@@ -1,32 +1,97 @@
 // A roster: the classroom, and what is kept for each desk. A line at a desk is done by the calls of that desk, with its key.
 #![tactic(auto)]
 
-ghost use Rattle.std.specs.Prelude.{◌≡◌, ◌≤◌, true, length};
+ghost use Rattle.std.specs.Prelude.{◌≡◌, ◌≤◌, true, length, IsErr};
 ghost use Rattle.classroom_record.specs.Record.{is_desk, all_closed};
+ghost use Rattle.classroom.specs.Calls.{calling_checked};
 
+use answers::Checked;
+use chip::{CallAnswer, Chip};
 use classroom::{Classroom, DeskNumber};
-use console::Console;
+use console::Caller;
+use event_answer::EventReply;
+use firmware::RequestReply;
 use model::Event;
-use output::Output;
-use refusal::Checked;
-use script::Command;
+use std::fmt;
+use std::fmt::Write;
+
+// What is kept of a desk from its opening on.
+#[derive(Clone, Copy)]
+pub struct Seat {
+    // The bytes lent for replies.
+    pub room: usize,
+    // How many calls were made.
+    pub calls: u64,
+}
+
+impl Seat {
+    // As at the opening: the console's room.
+    pub fn fresh() -> Self {
+        Seat {
+            room: console::ROOM,
+            calls: 0,
+        }
+    }
+}
 
 #[derive(Clone, Copy)]
 pub struct Roster {
     pub classroom: Classroom,
-    // Of each desk, from its opening on: the bytes lent for replies, and how many calls were made.
-    pub rooms: [usize; 16],
-    pub calls: [u64; 16],
-    // The line's number.
-    pub line: u64,
-    pub output: Output,
+    pub seats: [Seat; 16],
 }
 
-// Whom a line names: a desk, and a key that may be its own.
-#[derive(Clone, Copy)]
-pub struct Pupil {
-    pub number: DeskNumber,
-    pub key: u32,
+// A desk as its pupil calls it.
+#[derive(Drop)]
+struct Pupil<'a> {
+    classroom: &'a mut Classroom,
+    calls: &'a mut u64,
+    number: DeskNumber,
+    key: u32,
+    ghost there: { is_desk number ≡ true },
+}
+
+impl<'a> Pupil<'a> {
+    // One call more.
+    fn count(&mut self) {
+        *self.calls = self.calls.wrapping_add(1);
+    }
+}
+
+impl<'a> Caller for Pupil<'a> {
+    fn transfer(&mut self, bytes: &[u8], reply: &mut [u8]) -> CallAnswer<(), u16> {
+        self.count();
+        let answer = desk::transfer(*self.classroom, self.number, self.key, bytes, reply);
+        console::keep(self.classroom, answer)
+    }
+
+    fn event(
+        &mut self,
+        event: Event,
+        payload: &[u8],
+        reply: &mut [u8],
+    ) -> CallAnswer<(), EventReply> {
+        self.count();
+        let answer = desk::event(
+            *self.classroom,
+            self.number,
+            self.key,
+            event,
+            payload,
+            reply,
+        );
+        console::keep(self.classroom, answer)
+    }
+
+    fn step(&mut self, reply: &mut [u8]) -> CallAnswer<(), Option<RequestReply>> {
+        self.count();
+        let answer = desk::step(*self.classroom, self.number, self.key, reply);
+        console::keep(self.classroom, answer)
+    }
+
+    // The classroom is copied for it: an element behind the two references is not lent on.
+    fn chip(&self) -> Chip {
+        self.classroom.desk_at(self.number).board.chip
+    }
 }
 
 impl Roster {
@@ -35,177 +100,39 @@ impl Roster {
     {
         Roster {
             classroom: Classroom::start(),
-            rooms: [console::ROOM; 16],
-            calls: [0; 16],
-            line: 0,
-            output: Output::begin(),
+            seats: [Seat::fresh(); 16],
         }
     }
-}
 
-// The roster after a call.
-fn after(roster: Roster, number: DeskNumber, classroom: Classroom, output: Output) -> Roster
-    requires { is_desk number ≡ true }
-{
-    let i = number.0 as usize;
-    let mut next = roster;
-    next.classroom = classroom;
-    next.calls[i] = std::num::wrapping_add_u64(roster.calls[i], 1);
-    next.output = output;
-    next
-}
-
-fn transfer(
-    rt: &impl Print,
-    roster: Roster,
-    pupil: Pupil,
-    bytes: &[u8],
-    reply: &mut [u8],
-    page: &mut [u8],
-) -> Roster
-    requires { is_desk pupil.number ≡ true }
-{
-    let answer = desk::transfer(roster.classroom, pupil.number, pupil.key, bytes, reply);
-    let said = answer.reply;
-    let pin = answer.pin;
-    let output = answers::answer_transfer(rt, roster.line, said, pin, reply, page, roster.output);
-    after(roster, pupil.number, answer.classroom, output)
-}
-
-fn event(
-    rt: &impl Print,
-    roster: Roster,
-    pupil: Pupil,
-    event: Event,
-    bytes: &[u8],
-    reply: &mut [u8],
-    page: &mut [u8],
-) -> Roster
-    requires { is_desk pupil.number ≡ true }
-{
-    let answer = desk::event(
-        roster.classroom,
-        pupil.number,
-        pupil.key,
-        event,
-        bytes,
-        reply,
-    );
-    let said = answer.reply;
-    let pin = answer.pin;
-    let output = answers::answer_event(rt, roster.line, said, pin, reply, page, roster.output);
-    after(roster, pupil.number, answer.classroom, output)
-}
-
-fn step(rt: &impl Print, roster: Roster, pupil: Pupil, reply: &mut [u8], page: &mut [u8]) -> Roster
-    requires { is_desk pupil.number ≡ true }
-{
-    let answer = desk::step(roster.classroom, pupil.number, pupil.key, reply);
-    let said = answer.reply;
-    let pin = answer.pin;
-    let output = answers::answer_step(rt, roster.line, said, pin, reply, page, roster.output);
-    after(roster, pupil.number, answer.classroom, output)
-}
-
-// What a command puts that is no call: as the console does on that desk's board, and with its room.
-fn tell(
-    rt: &impl Print,
-    roster: Roster,
-    number: DeskNumber,
-    command: Command,
-    line: &[u8],
-    page: &mut [u8],
-) -> Roster
-    requires { is_desk number ≡ true }
-{
-    let i = number.0 as usize;
-    let classroom = roster.classroom;
-    let desk = classroom.desk_at(number);
-    let board = desk.board;
-    let before = roster.output;
-    let console = Console {
-        board,
-        room: roster.rooms[i],
-        line: roster.line,
-        output: before,
-    };
-    let told = console::tell(rt, console, command, line, page);
-    let output = told.output;
-    let mut next = roster;
-    next.rooms[i] = told.room;
-    next.output = output;
-    next
-}
-
-// Does what a line at a desk asks for, with so many bytes lent for the reply.
-fn perform(
-    rt: &impl Print,
-    roster: Roster,
-    pupil: Pupil,
-    command: Command,
-    line: &[u8],
-    bytes: &[u8],
-    reply: &mut [u8],
-    page: &mut [u8],
-) -> Roster
-    requires { is_desk pupil.number ≡ true }
-{
-    match command {
-        Command::Transfer(_count) => transfer(rt, roster, pupil, bytes, reply, page),
-        Command::Event(sent, _count) => event(rt, roster, pupil, sent, bytes, reply, page),
-        Command::Step => step(rt, roster, pupil, reply, page),
-        _ => tell(rt, roster, pupil.number, command, line, page),
-    }
-}
-
-// A line at a desk that is there.
-fn read_line(
-    rt: &impl Print,
-    roster: Roster,
-    pupil: Pupil,
-    line: &[u8],
-    bytes: &mut [u8],
-    page: &mut [u8],
-) -> Roster
-    requires { (is_desk pupil.number ≡ true) × (length line.now ≤ length bytes.old) }
-{
-    let mut reply = [0u8; 4200];
-    let command = script::parse(line, bytes);
-    let count = command.count();
-    let number = pupil.number;
-    let i = number.0 as usize;
-    let room = console::lent(roster.rooms[i]);
-    perform(
-        rt,
-        roster,
-        pupil,
-        command,
-        line,
-        &bytes[..count],
-        &mut reply[..room],
-        page,
-    )
-}
-
-// The key is looked at first, whatever the line asks for.
-pub fn call(
-    rt: &impl Print,
-    roster: Roster,
-    pupil: Pupil,
-    line: &[u8],
-    bytes: &mut [u8],
-    page: &mut [u8],
-) -> Roster
-    requires { length line.now ≤ length bytes.old }
-{
-    let checked = classroom::check_call(roster.classroom, pupil.number, pupil.key);
-    match checked {
-        Checked::Accepted => read_line(rt, roster, pupil, line, bytes, page),
-        Checked::Refused(_refusal) => {
-            let told = answers::answer_checked(rt, roster.line, checked, page, roster.output);
-            let mut next = roster;
-            next.output = told;
-            next
+    // A line at a desk. The key is looked at first, whatever the line asks for; a line that it refuses changes nothing.
+    pub fn call(
+        &mut self,
+        desk: DeskNumber,
+        key: u32,
+        number: u64,
+        line: &[u8],
+        bytes: &mut [u8],
+        out: &mut impl Write,
+    ) -> fmt::Result
+        requires { length line.now ≤ length bytes.old }
+        ensures { IsErr (calling_checked self.old.classroom desk key) → self.new ≡ self.old }
+    {
+        let checked = classroom::check_call(self.classroom, desk, key);
+        if checked.is_err() {
+            let told = Checked(checked);
+            return writeln!(out, "{number} {told}");
         }
+        let i = desk.0 as usize;
+        // Taken out and put back: two fields are not lent through one element.
+        let mut seat = self.seats[i];
+        let mut pupil = Pupil {
+            classroom: &mut self.classroom,
+            calls: &mut seat.calls,
+            number: desk,
+            key,
+        };
+        let told = console::take_line(&mut pupil, &mut seat.room, number, line, bytes, out);
+        self.seats[i] = seat;
+        told
     }
 }

@@ -1,10 +1,10 @@
 -- The bench cases of document 01, each a list of calls with its answers and the pin after each, from the power-on records of chip
 -- and firmware. All numbers in hex.
-use Rattle.std.specs.Prelude.{Bool, true, false, not, cond, List, [], ◌∷◌, ◌++◌, ℕ, zero, suc, replicate, take}
+use Rattle.refusal.specs.declared.Refusal.{Refusal}
+use Rattle.chip.specs.declared.Pin.{Pin}
+use Rattle.std.specs.Prelude.{Bool, true, false, not, cond, List, [], ◌∷◌, ◌++◌, ℕ, zero, suc, replicate, take, Result, Ok}
 use Rattle.chip.specs.declared.Chip.{Chip}
 use Rattle.chip.specs.declared.Pin.TheVariants.{Low, High, Open}
-use Rattle.chip.specs.declared.PinReply.{PinReply}
-use Rattle.chip.specs.declared.PinReply.TheVariants.{Level}
 use Rattle.chip.specs.Record.{power_on_chip}
 use Rattle.chip.specs.Pin.{pin_reply}
 use Rattle.chip.specs.Same.{same_chip}
@@ -24,8 +24,8 @@ use Rattle.rules.specs.Event.{max3420e}
 -- a call with its answer and the pin after it; the same, and the record is unchanged; or the firmware is asked, with its reply and the
 -- bytes that it counts
 pub data Step : Type 0 where
-  called still : Call → Answer → PinReply → Step
-  asked : List ℕ → RequestReply → List ℕ → Step
+  called still : Call → Answer → Result Pin Refusal → Step
+  asked : List ℕ → Result RequestReply Refusal → List ℕ → Step
 
 -- the step as the rules make it; one that is to leave the record unchanged is so only if the two records are the same (`same_chip_law`:
 -- then they are equal)
@@ -52,30 +52,30 @@ played ss = played_from power_on_chip power_on_firmware ss
 
 -- a transfer and its reply, lent as many bytes as it may have
 abbrev pub spi : List ℕ → List ℕ → Step
-spi bytes reply = called (transfer bytes 4096) (answered (transferred reply)) (Level High)
+spi bytes reply = called (transfer bytes 4096) (answered (transferred reply)) (Ok High)
 
 abbrev pub plain : ℕ → Event
 plain code = record { code = code; pins = 0; address = 0; endpoint = record { 0 = 0 }; damaged = false; data1 = false; acknowledged = false }
 
 abbrev pub signals : ℕ → Step
-signals code = called (event (plain code) [] 0) (answered done) (Level High)
+signals code = called (event (plain code) [] 0) (answered done) (Ok High)
 
 -- OUT to an endpoint, DATA1 where true
 abbrev pub out : ℕ → Bool → List ℕ → Reply → Step
 out endpoint toggle vs a =
     called
     (event (record { code = 11; pins = 0; address = 0; endpoint = record { 0 = endpoint }; damaged = false; data1 = toggle; acknowledged = false }) vs 0)
-    (answered a) (Level High)
+    (answered a) (Ok High)
 
 -- IN to an endpoint, whose ACK arrives where true
 abbrev pub «in» : ℕ → Bool → Reply → Step
 «in» endpoint arrives a =
     called
     (event (record { code = 12; pins = 0; address = 0; endpoint = record { 0 = endpoint }; damaged = false; data1 = false; acknowledged = arrives }) [] 64)
-    (answered a) (Level High)
+    (answered a) (Ok High)
 
 abbrev pub setup : List ℕ → Step
-setup vs = called (event (plain 10) vs 0) (answered ack) (Level High)
+setup vs = called (event (plain 10) vs 0) (answered ack) (Ok High)
 
 -- the same step, of which the record comes out unchanged
 abbrev pub no_change : Step → Step
@@ -84,7 +84,7 @@ no_change (still k a p) = still k a p
 no_change (asked s r vs) = asked s r vs
 
 -- the same step with another level of the pin
-abbrev pub pinned : PinReply → Step → Step
+abbrev pub pinned : Result Pin Refusal → Step → Step
 pinned p (called k a q) = called k a p
 pinned p (still k a q) = still k a p
 pinned p (asked s r vs) = asked s r vs
@@ -150,8 +150,8 @@ case7 =
 abbrev pub case8 : List Step
 case8 =
     on
-    ++ (pinned (Level Open) (writes 0x8a 0x08) ∷ pinned (Level Open) (writes 0x82 0x01) ∷ pinned (Level Open) (writes 0x62 0x20)
-    ∷ pinned (Level Low) (setup (0x80 ∷ 0x06 ∷ 0x00 ∷ 0x01 ∷ 0 ∷ 0 ∷ 0x40 ∷ 0 ∷ [])) ∷ pinned (Level Open) (writes 0x5a 0x20) ∷ [])
+    ++ (pinned (Ok Open) (writes 0x8a 0x08) ∷ pinned (Ok Open) (writes 0x82 0x01) ∷ pinned (Ok Open) (writes 0x62 0x20)
+    ∷ pinned (Ok Low) (setup (0x80 ∷ 0x06 ∷ 0x00 ∷ 0x01 ∷ 0 ∷ 0 ∷ 0x40 ∷ 0 ∷ [])) ∷ pinned (Ok Open) (writes 0x5a 0x20) ∷ [])
 
 abbrev pub case9 : List Step
 case9 =
@@ -164,7 +164,7 @@ abbrev pub ask_device : ℕ → List ℕ
 ask_device wlength = 0x80 ∷ 0x06 ∷ 0x00 ∷ 0x01 ∷ 0x00 ∷ 0x00 ∷ wlength ∷ 0x00 ∷ []
 
 abbrev pub case10 : List Step
-case10 = asked (ask_device 64) (Data 18) device ∷ asked (ask_device 8) (Data 8) (take 8 device) ∷ asked (ask_device 0) Ack [] ∷ []
+case10 = asked (ask_device 64) (Ok (Data 18)) device ∷ asked (ask_device 8) (Ok (Data 8)) (take 8 device) ∷ asked (ask_device 0) (Ok Ack) [] ∷ []
 
 abbrev pub cases : List (List Step)
 cases = case1 ∷ case2 ∷ case3 ∷ case4 ∷ case5 ∷ case6 ∷ case7 ∷ case8 ∷ case9 ∷ case10 ∷ []

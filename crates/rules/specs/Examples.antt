@@ -1,11 +1,10 @@
 -- Worked examples beside the bench cases: what those do not reach. Each is a list of calls with its answers and the pin after each,
 -- from the power-on record; the answers were worked out by hand from document 01. All numbers in hex.
-use Rattle.std.specs.Prelude.{Bool, true, false, List, [], ◌∷◌, ◌++◌, map, ℕ, replicate}
+use Rattle.std.specs.Prelude.{Bool, true, false, List, [], ◌∷◌, ◌++◌, map, ℕ, replicate, Ok}
 use Rattle.refusal.specs.declared.Refusal.{Refusal}
 use Rattle.refusal.specs.declared.Refusal.TheVariants.{NoCommand, LongTransfer, ShortBuffer, UnknownEvent, OutPayload}
 use Rattle.refusal.specs.declared.Refusal.TheVariants.{SetupPayload, BadAddress}
 use Rattle.chip.specs.declared.Pin.TheVariants.{Low, High, Open}
-use Rattle.chip.specs.declared.PinReply.TheVariants.{Level}
 use Rattle.model.specs.declared.Event.{Event}
 use Rattle.model.specs.Reply.{Reply, transferred, done, silence, ack, nak, stall, sent}
 use Rattle.model.specs.Call.{Call, transfer, event, refused, answered, Entry}
@@ -21,7 +20,7 @@ transaction code address endpoint =
 
 -- a call that is answered so, the pin inactive
 abbrev pub answers : Event → List ℕ → Reply → Step
-answers e vs a = called (event e vs 64) (answered a) (Level High)
+answers e vs a = called (event e vs 64) (answered a) (Ok High)
 
 -- a burst that reads zeros into n data bytes
 abbrev pub burst : ℕ → List ℕ → Step
@@ -187,9 +186,9 @@ gated =
 abbrev pub interrupts : List Step
 interrupts =
     on
-    ++ (writes 0x72 0x01 ∷ pinned (Level Low) (writes 0x82 0x01) ∷ pinned (Level High) (writes 0x8a 0x04)
-    ∷ pinned (Level Low) (writes 0x6a 0x01) ∷ pinned (Level Open) (writes 0x8a 0x0c) ∷ pinned (Level Low) (writes 0x62 0x01)
-    ∷ pinned (Level Low) (writes 0x8a 0x08) ∷ pinned (Level Open) (writes 0x82 0xfe) ∷ pinned (Level High) (writes 0x8a 0x00) ∷ [])
+    ++ (writes 0x72 0x01 ∷ pinned (Ok Low) (writes 0x82 0x01) ∷ pinned (Ok High) (writes 0x8a 0x04)
+    ∷ pinned (Ok Low) (writes 0x6a 0x01) ∷ pinned (Ok Open) (writes 0x8a 0x0c) ∷ pinned (Ok Low) (writes 0x62 0x01)
+    ∷ pinned (Ok Low) (writes 0x8a 0x08) ∷ pinned (Ok Open) (writes 0x82 0xfe) ∷ pinned (Ok High) (writes 0x8a 0x00) ∷ [])
 
 -- ---- every register: written with FF, 00 and two patterns, and read back
 
@@ -220,7 +219,7 @@ stored_registers =
       data1 = false;
       acknowledged =
           false;
-    }) [] 0) (answered done) (Level High) ∷ [])
+    }) [] 0) (answered done) (Ok High) ∷ [])
     ++ written 0xa2 0xa0 0xff 0xf5 0xfa 0xf0
     -- R13: a 1 clears; OSCOKIRQ is set
     ++ (writes 0x6a 0xfe ∷ reads 0x68 0x01 ∷ writes 0x6a 0x01 ∷ reads 0x68 0x00 ∷ [])
@@ -277,8 +276,8 @@ bav_in_burst =
     on
     ++ (spi (0x3a ∷ 0x01 ∷ 0x00 ∷ 0x00 ∷ 0x00 ∷ 0x18 ∷ []) (replicate 6 0) ∷ r11 0x01 ∷ «in» 2 true (sent false (0x00 ∷ [])) ∷ r11 0x09
     ∷ «in» 3 true (sent false []) ∷ r11 0x19 ∷ spi (0x5a ∷ 0x08 ∷ 0x00 ∷ 0x00 ∷ 0x00 ∷ 0x28 ∷ []) (replicate 6 0) ∷ r11 0x19
-    ∷ writes 0x62 0x08 ∷ writes 0x8a 0x10 ∷ pinned (Level Low) (spi (0x82 ∷ 0x01 ∷ []) (0x19 ∷ 0 ∷ []))
-    ∷ pinned (Level High) (spi (0x5a ∷ 0x08 ∷ []) (0x19 ∷ 0 ∷ [])) ∷ spi (0x58 ∷ 0 ∷ []) (0x11 ∷ 0x11 ∷ []) ∷ [])
+    ∷ writes 0x62 0x08 ∷ writes 0x8a 0x10 ∷ pinned (Ok Low) (spi (0x82 ∷ 0x01 ∷ []) (0x19 ∷ 0 ∷ []))
+    ∷ pinned (Ok High) (spi (0x5a ∷ 0x08 ∷ []) (0x19 ∷ 0 ∷ [])) ∷ spi (0x58 ∷ 0 ∷ []) (0x11 ∷ 0x11 ∷ []) ∷ [])
 
 -- a burst writes R9 to R20 and sticks there, and one reads R5 to R20, each register once
 abbrev pub bursts : List Step
@@ -302,7 +301,7 @@ full_bursts =
 -- ---- refusals, and what is just not refused
 
 abbrev pub refuses : Call → Refusal → Step
-refuses k r = still k (refused r) (Level High)
+refuses k r = still k (refused r) (Ok High)
 
 abbrev pub refusals : List Step
 refusals =
@@ -316,10 +315,10 @@ refusals =
     ∷ refuses (event (transaction 10 0 0) [] 0) (SetupPayload 0) ∷ refuses (event (transaction 12 128 0) [] 64) BadAddress
     ∷ refuses (event (transaction 12 0 16) [] 64) BadAddress ∷ refuses (event (transaction 11 128 0) [] 0) BadAddress
     ∷ refuses (event (transaction 10 128 0) (replicate 8 0) 0) BadAddress
-    ∷ called (transfer (0x90 ∷ replicate 4095 0) 4096) (answered (transferred (0 ∷ 0x01 ∷ 0 ∷ replicate 4093 0))) (Level High)
+    ∷ called (transfer (0x90 ∷ replicate 4095 0) 4096) (answered (transferred (0 ∷ 0x01 ∷ 0 ∷ replicate 4093 0))) (Ok High)
     ∷ answers (transaction 12 127 15) [] silence ∷ answers (transaction 11 127 15) (replicate 64 0) silence
-    ∷ called (event (transaction 11 0 1) [] 0) (answered silence) (Level High) ∷ called (event (transaction 10 0 0) (replicate 8 0) 0)
-    (answered silence) (Level High) ∷ []
+    ∷ called (event (transaction 11 0 1) [] 0) (answered silence) (Ok High) ∷ called (event (transaction 10 0 0) (replicate 8 0) 0)
+    (answered silence) (Ok High) ∷ []
 
 abbrev pub examples : List (List Step)
 examples =

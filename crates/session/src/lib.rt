@@ -1,197 +1,111 @@
-// A session: lines are read from a file, and the answers on a lent page are written. What waits on the page is written before each read,
-// so that who types sees it.
+// The lines of an input, read a chunk at a time. Nothing is read before the lines that are there are taken, so that who types sees the
+// answers to them.
 #![tactic(auto)]
 
-ghost use Rattle.std.specs.Prelude.{◌≡◌, ◌≤◌, length};
+ghost use Rattle.std.specs.Prelude.{◌≤◌, length, IfOk, IfSome};
+ghost use Rattle.arrayvec.specs.ArrayVec.{array_vec_len};
 
-use output::Output;
+use arrayvec::ArrayVec;
 use std::io::Read;
+use std::ops::Range;
+use std::{fmt, io};
 
 // The bytes of a line, at most.
 const LINE: usize = 16384;
 
-// What is kept between two reads and two lines.
+// What is kept of a line whose end is still to come: the CR of the longest and one byte more, by which a longer one is seen.
+const KEPT: usize = 16386;
+
+const CHUNK: usize = 65536;
+
+const ROOM: usize = KEPT + CHUNK;
+
 #[derive(Clone, Copy)]
-pub struct Session {
-    // The bytes of the chunk that are not taken yet.
-    pub start: usize,
-    pub end: usize,
-    // The bytes of the line so far, and whether its end has come.
-    pub filled: usize,
-    pub whole: bool,
-    // The line's number, and its length without its end: 0 where none is to be taken, since a blank line asks for nothing.
+pub struct TooLong;
+
+impl fmt::Display for TooLong {
+    fn fmt<W: fmt::Write>(&self, f: &mut fmt::Formatter<W>) -> fmt::Result {
+        write!(f, "a line has at most {LINE} bytes")
+    }
+}
+
+// A line with its number from 1 on, and without its end.
+#[derive(Clone, Copy)]
+pub struct Line<'a> {
     pub number: u64,
-    pub length: usize,
-    // The line was too long to be taken, which is told on the page.
-    pub long: bool,
-    // A read failed, which is told on standard error.
-    pub broken: bool,
-    // The input has ended. Nothing follows: then, or after a write that failed.
-    pub ended: bool,
-    pub over: bool,
-    pub output: Output,
+    pub text: Result<&'a [u8], TooLong>,
 }
 
-impl Session {
-    pub fn begin() -> Self
-        ensures { (result.length ≡ 0) × (result.filled ≡ 0) }
-    {
+#[derive(Drop)]
+pub struct Session<R> {
+    // None once it has ended.
+    input: Option<R>,
+    // What is read; the lines before `start` are taken.
+    text: ArrayVec<u8, ROOM>,
+    start: usize,
+    // The lines that are taken.
+    number: u64,
+    ghost inside: { start ≤ array_vec_len text },
+}
+
+impl<R: Read + Drop> Session<R> {
+    pub fn begin(input: R) -> Self {
         Session {
+            input: Some(input),
+            text: ArrayVec::new(),
             start: 0,
-            end: 0,
-            filled: 0,
-            whole: false,
             number: 0,
-            length: 0,
-            long: false,
-            broken: false,
-            ended: false,
-            over: false,
-            output: Output::begin(),
         }
     }
-}
 
-fn lesser(a: usize, b: usize) -> usize
-    ensures { (result ≤ a) × (result ≤ b) }
-{
-    if a < b { a } else { b }
-}
-
-// Adds a part to a line that is filled so far. What does not fit is dropped: the line is too long then.
-fn append(part: &[u8], line: &mut [u8], filled: usize) -> usize
-    ensures { result ≤ length line.old }
-{
-    let length = line.len();
-    if length < filled {
-        return length;
+    // Where the next line is, with its CR and without its LF.
+    fn take(&mut self) -> Option<Range<usize>>
+        ensures { IfSome result (λ r. (r.start ≤ r.end) × (r.end ≤ array_vec_len self.new.text)) }
+    {
+        let start = self.start;
+        let rest = &self.text.as_slice()[start..];
+        let (end, next) = match rest.iter().position(|byte| *byte == b'\n') {
+            Some(length) => (start + length, start + length + 1),
+            None if self.input.is_some() || rest.is_empty() => return None,
+            None => (self.text.len(), self.text.len()),
+        };
+        self.start = next;
+        self.number = self.number.wrapping_add(1);
+        Some(start..end)
     }
-    let count = lesser(part.len(), length - filled);
-    octets::copy(&part[0..count], &mut line[filled..]);
-    filled + count
-}
 
-// Takes the chunk's bytes to the next line end, or all of them.
-fn take_part(session: Session, chunk: &[u8], start: usize, end: usize, line: &mut [u8]) -> Session
-    requires { (start ≤ end) × (end ≤ length chunk.now) }
-    ensures { result.filled ≤ length line.old }
-{
-    let stop = octets::find(chunk, start, end, b'\n');
-    let filled = append(&chunk[start..stop], line, session.filled);
-    let mut next = session;
-    next.filled = filled;
-    next.whole = stop < end;
-    next.start = stop + 1;
-    next
-}
-
-// Writes what waits on the page, and says so where that fails.
-fn write_page(rt: &impl Print, err: &impl Print, session: Session, page: &[u8]) -> Session
-    ensures { (result.filled ≡ session.filled) × (result.length ≡ session.length) }
-{
-    let output = output::flush(rt, page, session.output);
-    let mut next = session;
-    next.output = output;
-    next.over = session.ended;
-    if output.failed {
-        output::tell_failure(err, b"max3420e: standard output", output.reason());
-        next.over = true;
-    }
-    next
-}
-
-// Reads once. A last line may have no line end.
-fn read_chunk(
-    err: &impl Print,
-    session: Session,
-    input: &mut impl Read,
-    path: &[u8],
-    chunk: &mut [u8],
-) -> Session
-    ensures { result.filled ≡ session.filled }
-{
-    let mut next = session;
-    next.broken = false;
-    next.start = 0;
-    next.end = 0;
-    match input.read(chunk) {
-        Ok(count) => next.end = count,
-        Err(error) => {
-            let _ = err.write_all(b"max3420e: cannot read ");
-            output::tell_failure(err, path, error);
-            next.broken = true;
+    // The next line, if its end has been read. At the input's end a last line may have none.
+    pub fn line(&mut self) -> Option<Line<'_>>
+        ensures { IfSome result (λ l. IfOk l.text (λ text. length text.now ≤ 16384)) }
+    {
+        let place = self.take()?;
+        let number = self.number;
+        let whole = &self.text.as_slice()[place];
+        let text = words::without_return(whole);
+        if LINE < text.len() {
+            return Some(Line {
+                number,
+                text: Err(TooLong),
+            });
         }
+        Some(Line {
+            number,
+            text: Ok(text),
+        })
     }
-    if next.end == 0 {
-        next.ended = true;
-        next.whole = 0 < session.filled;
-    }
-    next
-}
 
-// A line whose end has come can be taken, unless it is too long.
-fn end_line(rt: &impl Print, session: Session, line: &[u8], page: &mut [u8]) -> Session
-    requires { session.filled ≤ length line.now }
-    ensures { (result.length ≤ 16384) × (result.length ≤ length line.now) }
-{
-    let mut next = session;
-    next.length = 0;
-    next.long = false;
-    if !session.whole {
-        return next;
+    // Reads once, or says by None that the input had ended before. It ends with a read that fails, too.
+    pub fn read(&mut self) -> Option<io::Result<()>> {
+        let mut chunk = [0u8; CHUNK];
+        let read = self.input.as_mut()?.read(&mut chunk);
+        let count = read.unwrap_or(0);
+        if count == 0 {
+            self.input = None;
+        }
+        self.text.drain(..self.start);
+        self.start = 0;
+        self.text.truncate(KEPT);
+        let _fits = self.text.try_extend_from_slice(&chunk[..count]);
+        Some(read.map(|_| ()))
     }
-    next.number = std::num::wrapping_add_u64(session.number, 1);
-    let filled = session.filled;
-    let length = words::without_return(&line[..filled]);
-    if LINE < length {
-        let begun = output::put_decimal(rt, next.number, page, session.output);
-        let told = output::put(rt, b" error: a line has at most 16384 bytes\n", page, begun);
-        next.output = told;
-        next.long = true;
-        return next;
-    }
-    next.length = length;
-    next
-}
-
-// Before the next part: nothing is left of a line that was whole.
-fn go_on(session: Session, size: usize) -> Session
-    ensures { (result.filled ≤ size) × (result.length ≡ 0) }
-{
-    let mut next = session;
-    next.length = 0;
-    next.filled = lesser(session.filled, size);
-    if session.whole {
-        next.whole = false;
-        next.filled = 0;
-    }
-    next
-}
-
-// Goes on to the next line's end, or as far as the chunk goes, or by a read.
-pub fn next(
-    rt: &impl Print,
-    err: &impl Print,
-    session: Session,
-    input: &mut impl Read,
-    path: &[u8],
-    chunk: &mut [u8],
-    line: &mut [u8],
-    page: &mut [u8],
-) -> Session
-    ensures { (result.length ≤ 16384) × (result.length ≤ length line.old) }
-{
-    let begun = go_on(session, line.len());
-    let start = begun.start;
-    let end = lesser(begun.end, chunk.len());
-    if start < end {
-        let taken = take_part(begun, chunk, start, end, line);
-        return end_line(rt, taken, line, page);
-    }
-    let written = write_page(rt, err, begun, page);
-    if written.over {
-        return written;
-    }
-    let read = read_chunk(err, written, input, path, chunk);
-    end_line(rt, read, line, page)
 }

@@ -1,5 +1,6 @@
 -- The call's answer and next record are `answer_of` and `call_to` of the MAX3420E and the call: from what the two ways of the code
 -- make, refused and accepted.
+use Rattle.std.specs.Prelude.{Ok, Err}
 use mathlib.Core.Path.{◌≡◌, refl, sym, ap, ◌∙◌}
 use mathlib.Core.Bool.{cond}
 use mathlib.Core.List.{List, [], ◌∷◌, ◌++◌}
@@ -11,8 +12,7 @@ use Rattle.bits.specs.Bit.{raised}
 use Rattle.ring.specs.Ring.{oldest_count}
 use Rattle.ring.proofs.Laws.{oldest_small}
 use Rattle.refusal.specs.declared.Refusal.{Refusal}
-use Rattle.refusal.specs.declared.Checked.TheVariants.{Accepted, Refused}
-use Rattle.refusal.specs.Check.{check, unless_refused}
+use Rattle.refusal.specs.Check.{check, unless_refused, tells}
 use Rattle.refusal.proofs.Check.{accepted_none}
 use Rattle.chip.specs.declared.Chip.{Chip}
 use Rattle.chip.specs.declared.Pin.{Pin}
@@ -28,9 +28,8 @@ use Rattle.model.proofs.Loop.{burst_length}
 use Rattle.rules.specs.Spi.{max3420e_spi}
 use Rattle.rules.specs.Event.{max3420e}
 use Rattle.bits.proofs.Cases.{cond_map}
-use Rattle.spi.specs.declared.TransferReply.TheVariants as reply
-use Rattle.spi.specs.declared.TransferAnswer.{TransferAnswer}
-use Rattle.spi.specs.Transfer.{transfer_answer, transfer_tells, transfer_count}
+use Rattle.spi.specs.Transfer.{TransferAnswer}
+use Rattle.spi.specs.Transfer.{transfer_answer, transfer_count}
 
 -- ---- an accepted transfer
 
@@ -67,7 +66,7 @@ pub record Fitting (c : Chip) (n room : ℕ) : Type 0 where
   pub fits : n ≤ room
 
 -- what an accepted transfer is known to be
-pub fitting : (c : Chip) (n room : ℕ) → check (transfer_grounds (sound_chip c) n room) ≡ Accepted → Fitting c n room
+pub fitting : (c : Chip) (n room : ℕ) → check (transfer_grounds (sound_chip c) n room) ≡ (Ok tt) → Fitting c n room
 fitting c n room e =
     let none = accepted_none (transfer_grounds (sound_chip c) n room) e in
     let sound = sound_clauses c (not-false (sound_chip c) (none 0)) in
@@ -87,18 +86,18 @@ abbrev pub Promised : Chip → List ℕ → List ℕ → TransferAnswer → List
 Promised c bytes buffer r out =
     (r ≡ transfer_answer c (transfer bytes (length buffer)))
     × (out ≡ buffer_after (answer_of max3420e c (transfer bytes (length buffer))) buffer)
-    × (transfer_tells r.reply ≡ checked max3420e c (transfer bytes (length buffer)))
+    × (tells r.reply ≡ checked max3420e c (transfer bytes (length buffer)))
     × (transfer_count r.reply ≡ unless_refused (checked max3420e c (transfer bytes (length buffer))) (length bytes))
 
 pub refused_call : (c : Chip) (bytes buffer : List ℕ) (t : Refusal) (p : Pin) → checked max3420e c (transfer bytes (length buffer)) ≡
-    Refused t
-    → p ≡ pin_of c.registers → Promised c bytes buffer (record { chip = c; reply = reply.Refused t; pin = p }) buffer
+    Err t
+    → p ≡ pin_of c.registers → Promised c bytes buffer (record { state = c; reply = Err t; pin = p }) buffer
 unfolding call_to answer_of
 refused_call c bytes buffer t p e pin = rw (e, pin) (refl, refl, refl, refl)
 
-pub accepted_call : (c after : Chip) (bytes buffer out : List ℕ) (p : Pin) → checked max3420e c (transfer bytes (length buffer)) ≡ Accepted
+pub accepted_call : (c after : Chip) (bytes buffer out : List ℕ) (p : Pin) → checked max3420e c (transfer bytes (length buffer)) ≡ (Ok tt)
     → (after ≡ transfer_to max3420e_spi c bytes) × (out ≡ lent (transfer_of max3420e_spi c bytes) buffer) → p ≡ pin_of after.registers
-    → Promised c bytes buffer (record { chip = after; reply = reply.Transferred (length bytes); pin = p }) out
+    → Promised c bytes buffer (record { state = after; reply = Ok (length bytes); pin = p }) out
 unfolding call_to answer_of
 accepted_call c after bytes buffer out p e done pin =
     rw (e, pin, done.0, done.1) (ap (λ (n : ℕ). answer n) (sym (transfer_length max3420e_spi c bytes)), refl, refl, refl)
@@ -106,4 +105,4 @@ accepted_call c after bytes buffer out p e done pin =
     answer : ℕ → TransferAnswer
     answer n =
         let d = transfer_to max3420e_spi c bytes in
-        record { chip = d; reply = reply.Transferred n; pin = pin_of d.registers }
+        record { state = d; reply = Ok n; pin = pin_of d.registers }

@@ -4,7 +4,7 @@
 ghost use Rattle.std.specs.Prelude.{◌≡◌, cond, ◌<◌, ◌≤◌, length};
 ghost use Rattle.bits.specs.Bit.{raised};
 ghost use Rattle.ring.specs.Ring.{oldest_count};
-ghost use Rattle.refusal.specs.Check.{check, unless_refused};
+ghost use Rattle.refusal.specs.Check.{check, unless_refused, tells};
 ghost use Rattle.chip.specs.Mask.{ackstat};
 ghost use Rattle.chip.specs.Sound.{sound_chip};
 ghost use Rattle.chip.specs.Set.{set_registers};
@@ -13,41 +13,30 @@ ghost use Rattle.model.specs.Spi.{command_acknowledges, transfer_to, transfer_of
 ghost use Rattle.model.specs.Call.{Call, transfer_grounds, checked, answer_of, buffer_after};
 ghost use Rattle.rules.specs.Spi.{status_byte, max3420e_spi};
 ghost use Rattle.rules.specs.Event.{max3420e};
-ghost use Rattle.spi.specs.Transfer.{transfer_answer, transfer_tells, transfer_count};
+ghost use Rattle.spi.specs.Transfer.{transfer_answer, transfer_count};
 
-use chip::{Chip, Pin, Registers};
-use refusal::{Checked, Refusal};
+use chip::{CallAnswer, Chip, Registers};
+use refusal::Refusal;
 
-// Why a transfer is refused, or how many bytes of the lent buffer are its reply.
-#[derive(Clone, Copy)]
-pub enum TransferReply {
-    Refused(Refusal),
-    Transferred(u16),
-}
+// The reply is how many bytes of the lent buffer are the reply's.
+pub type TransferAnswer = CallAnswer<Chip, u16>;
 
-#[derive(Clone, Copy)]
-pub struct TransferAnswer {
-    pub chip: Chip,
-    pub reply: TransferReply,
-    pub pin: Pin,
-}
-
-fn check(chip: Chip, n: usize, room: usize) -> Checked
+fn check(chip: Chip, n: usize, room: usize) -> Result<(), Refusal>
     ensures { result ≡ check (transfer_grounds (sound_chip chip) n room) }
 {
     if chip.is_sound() {
         if n == 0 {
-            return Checked::Refused(Refusal::NoCommand);
+            return Err(Refusal::NoCommand);
         }
         if Chip::TRANSFER < n {
-            return Checked::Refused(Refusal::LongTransfer);
+            return Err(Refusal::LongTransfer);
         }
         if room < n {
-            return Checked::Refused(Refusal::ShortBuffer);
+            return Err(Refusal::ShortBuffer);
         }
-        return Checked::Accepted;
+        return Ok(());
     }
-    Checked::Refused(Refusal::Unsound)
+    Err(Refusal::Unsound)
 }
 
 // Reply byte 0.
@@ -90,22 +79,22 @@ pub fn transfer(chip: Chip, bytes: &[u8], reply: &mut [u8]) -> TransferAnswer
     ensures { (result ≡ transfer_answer chip (Call.transfer bytes.now (length reply.old)))
         × (reply.new
         ≡ buffer_after (answer_of max3420e chip (Call.transfer bytes.now (length reply.old))) reply.old)
-        × (transfer_tells result.reply ≡ checked max3420e chip (Call.transfer bytes.now (length reply.old)))
+        × (tells result.reply ≡ checked max3420e chip (Call.transfer bytes.now (length reply.old)))
         × (transfer_count result.reply
         ≡ unless_refused (checked max3420e chip (Call.transfer bytes.now (length reply.old)))
         (length bytes.now)) }
 {
     match check(chip, bytes.len(), reply.len()) {
-        Checked::Refused(refusal) => TransferAnswer {
-            chip,
-            reply: TransferReply::Refused(refusal),
+        Err(refusal) => CallAnswer {
+            state: chip,
+            reply: Err(refusal),
             pin: chip.registers.pin(),
         },
-        Checked::Accepted => {
+        Ok(()) => {
             let after = run(chip, bytes, reply);
-            TransferAnswer {
-                chip: after,
-                reply: TransferReply::Transferred(bytes.len() as u16),
+            CallAnswer {
+                state: after,
+                reply: Ok(bytes.len() as u16),
                 pin: after.registers.pin(),
             }
         }

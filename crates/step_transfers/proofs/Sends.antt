@@ -1,4 +1,5 @@
 -- A sound record does not refuse a transfer of 1 to 4,096 bytes that is lent as many; and what the shortest ones do.
+use Rattle.std.specs.Prelude.{Ok}
 use mathlib.Core.Path.{◌≡◌, sym, ap, ◌∙◌}
 use mathlib.Core.Bool.{Bool, true}
 use mathlib.Core.List.{List, [], ◌∷◌, ◌++◌}
@@ -6,8 +7,7 @@ use Prim.Native.Nat.{ℕ, ◌≤◌, ◌<◌}
 use native.Mathlib.Omega.{arith}
 use lib.ListN.{length, drop}
 use borrow.Author.Tests.{ne_eqb, le-ltb}
-use Rattle.refusal.specs.declared.Checked.{Checked}
-use Rattle.refusal.specs.declared.Checked.TheVariants.{Accepted}
+use Rattle.refusal.specs.Check.{Checked}
 use Rattle.chip.specs.declared.Chip.{Chip}
 use Rattle.chip.specs.Sound.{sound_chip}
 use Rattle.model.specs.Spi.{command_register, command_writes, command_to, write_to, burst_to, burst_of, transfer_to}
@@ -18,7 +18,7 @@ use Rattle.rules.specs.Event.{max3420e}
 use Rattle.step_transfers.specs.Step.{sends}
 
 module _ (c : Chip) (sound : sound_chip c ≡ true) where
-  pub sends_accepted : (bs : List ℕ) → 0 < length bs → length bs ≤ 4096 → checked max3420e c (sends bs) ≡ Accepted
+  pub sends_accepted : (bs : List ℕ) → 0 < length bs → length bs ≤ 4096 → checked max3420e c (sends bs) ≡ (Ok tt)
   sends_accepted bs some few =
       rw (sound, ne_eqb (length bs) 0 (λ e. omega arith), le-ltb 4096 (length bs) few, le-ltb (length bs) (length bs) (omega arith))
 

@@ -1,4 +1,6 @@
 -- The board step reads eight bytes, so the firmware never refuses them; and what it replies does not depend on the lent bytes.
+use Rattle.refusal.specs.Check.{tells}
+use Rattle.std.specs.Prelude.{Ok}
 use mathlib.Core.Path.{◌≡◌, refl, ap, ◌∙◌}
 use mathlib.Core.Bool.{Bool, true, false, cond}
 use mathlib.Core.List.{List, ◌∷◌, ◌++◌}
@@ -9,7 +11,6 @@ use lib.ListN.{length, take, drop, replicate, length-drop}
 use lib.Seq.{take_all, take_at, length-take-le}
 use native.Mathlib.Nat.{min-le_right}
 use borrow.Author.Tests.{eq-eqb, le-ltb}
-use Rattle.refusal.specs.declared.Checked.TheVariants.{Accepted}
 use Rattle.descriptor.specs.Send.{count}
 use Rattle.descriptor.specs.Table.{data_bytes}
 use Rattle.chip.specs.declared.Chip.{Chip}
@@ -21,7 +22,7 @@ use Rattle.request.specs.declared.Endpoints.TheVariants.{Unchanged}
 use Rattle.request.specs.Record.{sound_firmware}
 use Rattle.request.specs.Request.{request_of, decision_of}
 use Rattle.firmware.specs.declared.RequestReply.TheVariants.{Ack, Data}
-use Rattle.firmware.specs.Answer.{handled, served_of, decision_served, request_tells}
+use Rattle.firmware.specs.Answer.{handled, served_of, decision_served}
 use Rattle.firmware.proofs.Laws.{handled_numbers}
 use Rattle.model.specs.Call.{call_to}
 use Rattle.model.proofs.Runs.{transfer_buffer}
@@ -51,7 +52,7 @@ handled_lent setup f xs ys eight sound hx hy =
     (served_answer (decision_of (request_of setup) f) (request_of setup).wlength f xs ys)
 
 -- the firmware never refuses a step
-pub firmware_accepts : (c : Chip) (f : Firmware) → sound_firmware f ≡ true → request_tells (served c f).answer.reply ≡ Accepted
+pub firmware_accepts : (c : Chip) (f : Firmware) → sound_firmware f ≡ true → tells (served c f).answer.reply ≡ (Ok tt)
 firmware_accepts c f sound =
     (handled_numbers (setup_read c) f (replicate 64 0)).refusal ∙ rw (sound, eq-eqb (length (setup_read c)) 8 (setup_length c))
 
@@ -63,7 +64,7 @@ part_is c nine e = ap (take 8) e ∙ take_all 8 (setup_read c) (omega (arith, se
 
 -- the transfers that serve a reply read the bytes that it counts, which do not depend on the rest of the lent buffer
 counted_same : (t : Bool) (n r9 r10 : ℕ) (e : Endpoints) (vs xs ys : List ℕ) → length vs ≡ n
-    → serves (cond t Ack (Data n)) e (vs ++ xs) r9 r10 ≡ serves (cond t Ack (Data n)) e (vs ++ ys) r9 r10
+    → serves (Ok (cond t Ack (Data n))) e (vs ++ xs) r9 r10 ≡ serves (Ok (cond t Ack (Data n))) e (vs ++ ys) r9 r10
 counted_same true n r9 r10 e vs xs ys long = refl
 counted_same false n r9 r10 e vs xs ys long = rw (take_at vs xs n long, take_at vs ys n long)
 

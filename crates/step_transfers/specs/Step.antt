@@ -1,5 +1,6 @@
 -- The board step (document 01, "The firmware"): the transfers that it sends, from the two records, and what the firmware replies.
-use Rattle.std.specs.Prelude.{Bool, cond, List, [], ◌∷◌, ◌++◌, ℕ, ◌+◌, length, take, drop, replicate}
+use Rattle.refusal.specs.declared.Refusal.{Refusal}
+use Rattle.std.specs.Prelude.{Bool, cond, List, [], ◌∷◌, ◌++◌, ℕ, ◌+◌, length, take, drop, replicate, Result, Ok, Err}
 use Rattle.std.specs.Int.Bits.{bit_and, bit_or}
 use Rattle.bits.specs.Bit.{has}
 use Rattle.chip.specs.declared.Chip.{Chip}
@@ -8,7 +9,7 @@ use Rattle.request.specs.declared.Firmware.{Firmware}
 use Rattle.request.specs.declared.Endpoints.{Endpoints}
 use Rattle.request.specs.declared.Endpoints.TheVariants.{Unchanged, ClearHalt, SetHalt, Configure}
 use Rattle.firmware.specs.declared.RequestReply.{RequestReply}
-use Rattle.firmware.specs.declared.RequestReply.TheVariants.{Refused, Stall, Ack, Data}
+use Rattle.firmware.specs.declared.RequestReply.TheVariants.{Stall, Ack, Data}
 use Rattle.firmware.specs.Answer.{Handled, handled}
 use Rattle.firmware.specs.Registers.{epstalls_of, clrtogs_of}
 use Rattle.model.specs.Call.{Call, transfer, answer_of, call_to, buffer_after}
@@ -57,11 +58,11 @@ writes_endpoints SetHalt r9 r10 = writes_both SetHalt r9 r10
 writes_endpoints Configure r9 r10 = writes_both Configure r9 r10
 
 -- STALL; ACK only: first R9 and R10, then `91`; data: bytes to R0, then `2B n`
-abbrev pub serves : RequestReply → Endpoints → List ℕ → ℕ → ℕ → List Call
-serves (Refused r) e vs r9 r10 = []
-serves Stall e vs r9 r10 = sends (0x4a ∷ stall_byte r9 ∷ []) ∷ []
-serves Ack e vs r9 r10 = writes_endpoints e r9 r10 ++ (sends (0x91 ∷ []) ∷ [])
-serves (Data n) e vs r9 r10 = sends (0x02 ∷ take n vs) ∷ sends (0x2b ∷ n ∷ []) ∷ []
+abbrev pub serves : Result RequestReply Refusal → Endpoints → List ℕ → ℕ → ℕ → List Call
+serves (Err r) e vs r9 r10 = []
+serves (Ok Stall) e vs r9 r10 = sends (0x4a ∷ stall_byte r9 ∷ []) ∷ []
+serves (Ok Ack) e vs r9 r10 = writes_endpoints e r9 r10 ++ (sends (0x91 ∷ []) ∷ [])
+serves (Ok (Data n)) e vs r9 r10 = sends (0x02 ∷ take n vs) ∷ sends (0x2b ∷ n ∷ []) ∷ []
 
 -- ---- the step: nothing if SUDAVIRQ=0
 

@@ -1,7 +1,8 @@
-// The transfers of the board step (document 01, "The firmware", last paragraph), each as a sound record takes it.
+// The transfers of the board step (document 01, "The firmware", last paragraph), each as a sound record takes it. That it is sound
+// stays a `requires`, of one word: a type round the record, which is C's, would be opened and proved sound again wherever it changes.
 #![tactic(auto)]
 
-ghost use Rattle.std.specs.Prelude.{◌≡◌, true, ◌+◌, ◌≤◌, length, take, drop, [], ◌∷◌};
+ghost use Rattle.std.specs.Prelude.{◌≡◌, true, ◌+◌, ◌≤◌, length, take, drop, [], ◌∷◌, Ok};
 ghost use Rattle.chip.specs.Sound.{sound_chip};
 ghost use Rattle.firmware.specs.Answer.{request_count};
 ghost use Rattle.model.specs.Spi.{command_writes};
@@ -12,6 +13,7 @@ ghost use Rattle.step_transfers.specs.Step.{writes_both, writes_endpoints, serve
 
 use chip::Chip;
 use firmware::{Endpoints, RequestReply};
+use refusal::Refusal;
 
 // A command byte that writes a register, and one data byte: as the transfer, which a sound record does not refuse.
 fn send(mut chip: Chip, command: u8, byte: u8) -> Chip
@@ -106,10 +108,30 @@ fn send_data(chip: Chip, bytes: &[u8], n: u8) -> Chip
     send(filled, 0x2b, n)
 }
 
-// The transfers that serve the firmware's reply.
-pub fn serve_reply(
+// The transfers that serve an accepted request's reply.
+fn serve_accepted(
     chip: Chip,
     reply: RequestReply,
+    endpoints: Endpoints,
+    epstalls: u8,
+    clrtogs: u8,
+    bytes: &[u8],
+) -> Chip
+    requires { (sound_chip chip ≡ true) × (request_count (Ok reply) ≤ 64) × (64 ≤ length bytes.now) }
+    ensures { result ≡ run_to max3420e chip (serves (Ok reply) endpoints bytes.now epstalls clrtogs) }
+{
+    match reply {
+        RequestReply::Stall => send(chip, 0x4a, stall_byte(epstalls)),
+        RequestReply::Ack => acknowledge(write_endpoints(chip, endpoints, epstalls, clrtogs)),
+        RequestReply::Data(n) => send_data(chip, bytes, n),
+    }
+}
+
+// The transfers that serve the firmware's reply; none where it refused.
+#[tactic(auto, unfolding(model::specs::Call::run_to))]
+pub fn serve_reply(
+    chip: Chip,
+    reply: Result<RequestReply, Refusal>,
     endpoints: Endpoints,
     epstalls: u8,
     clrtogs: u8,
@@ -119,9 +141,7 @@ pub fn serve_reply(
     ensures { result ≡ run_to max3420e chip (serves reply endpoints bytes.now epstalls clrtogs) }
 {
     match reply {
-        RequestReply::Refused(_refusal) => chip,
-        RequestReply::Stall => send(chip, 0x4a, stall_byte(epstalls)),
-        RequestReply::Ack => acknowledge(write_endpoints(chip, endpoints, epstalls, clrtogs)),
-        RequestReply::Data(n) => send_data(chip, bytes, n),
+        Err(_) => chip,
+        Ok(accepted) => serve_accepted(chip, accepted, endpoints, epstalls, clrtogs, bytes),
     }
 }

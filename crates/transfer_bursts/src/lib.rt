@@ -1,5 +1,5 @@
 // The data bytes of a transfer on the record: at a FIFO on its endpoint, at the control registers one after the other (document 01, "The
-// SPI side").
+// SPI side"). That the lent buffer is as long as the bytes sent stands with each function, as in crate bursts.
 #![tactic(auto)]
 
 ghost use Rattle.std.specs.Prelude.{◌≡◌, true, false, ◌<◌, ◌≤◌, length, replicate};
@@ -19,11 +19,7 @@ fn clear(reply: &mut [u8])
         reply[0] = 0;
         return;
     }
-    let mut i = 0;
-    while i < reply.len() {
-        reply[i] = 0;
-        i += 1;
-    }
+    reply.fill(0);
 }
 
 // The data bytes of a write from a control register on, one after the other. The record stays in its place: a call that takes and
@@ -33,8 +29,7 @@ fn write_controls(mut chip: Chip, register: u8, bytes: &[u8], reply: &mut [u8]) 
     ensures { Burst max3420e_spi chip result true register bytes.now reply.old reply.new }
 {
     let mut selected = register;
-    let mut i = 1;
-    while i < bytes.len() {
+    for i in 1..bytes.len() {
         let byte = bytes[i];
         match selected {
             5 => chip = registers::write_ep0bc(chip, byte),
@@ -57,7 +52,6 @@ fn write_controls(mut chip: Chip, register: u8, bytes: &[u8], reply: &mut [u8]) 
         }
         reply[i] = 0;
         selected = registers::step_register(selected);
-        i += 1;
     }
     chip
 }
@@ -100,11 +94,9 @@ fn read_controls(chip: Chip, register: u8, bytes: &[u8], reply: &mut [u8])
 {
     let mut selected = register;
     let end = bytes.len();
-    let mut i = 1;
-    while i < end {
+    for i in 1..end {
         reply[i] = registers::read_register(chip, selected);
         selected = registers::step_register(selected);
-        i += 1;
     }
 }
 

@@ -1,162 +1,65 @@
-// The words of a line, which blanks and tabs set apart, and what they say.
+// The words of a line, which blanks and tabs set apart, and which part of a line counts.
 #![tactic(auto)]
 
-ghost use Rattle.std.specs.Prelude.{◌≡◌, ◌+◌, ◌-◌, ◌/◌, ◌≤◌, eqb, length};
-ghost use Rattle.words.specs.Words.{Within};
+ghost use Rattle.std.specs.Prelude.{◌≡◌, ◌≤◌, length, take, position};
+ghost use Rattle.std.specs.Iterator.{at_most};
+ghost use Rattle.words.specs.Words.{is_blank, is_glyph, NextWord};
 
-use numerals::{ByteWord, NumberWord};
-
-// Where a word starts, and where it ends: at the line's end with nothing between, where no word is left.
+// The words from a place of a line on.
 #[derive(Clone, Copy)]
-pub struct Word {
-    pub start: usize,
-    pub end: usize,
+pub struct Words<'a> {
+    pub rest: &'a [u8],
 }
 
-impl Word {
-    pub fn is_none(self) -> bool
-        ensures { result ≡ eqb self.start self.end }
-    {
-        self.start == self.end
+fn is_blank(byte: u8) -> bool
+    ensures { result ≡ is_blank byte }
+{
+    (byte == b' ') | (byte == b'\t')
+}
+
+fn find_word(line: &[u8]) -> Option<usize>
+    ensures { result ≡ position is_glyph line.now }
+{
+    line.iter().position(|byte| !is_blank(*byte))
+}
+
+fn find_blank(line: &[u8]) -> Option<usize>
+    ensures { result ≡ position is_blank line.now }
+{
+    line.iter().position(|byte| is_blank(*byte))
+}
+
+impl<'a> Iterator for Words<'a> {
+    type Item = &'a [u8];
+
+    ghost next_gives = { NextWord };
+
+    ghost remaining = { λ s. at_most (length s.rest.now) };
+
+    #[tactic(auto, using(crate::proofs::Blanks::word_starts))]
+    fn next(&mut self) -> Option<&'a [u8]> {
+        let start = find_word(self.rest)?;
+        let from = &self.rest[start..];
+        let (word, rest) = from.split_at(find_blank(from).unwrap_or(from.len()));
+        self.rest = rest;
+        Some(word)
     }
 }
 
-// Every name of a table takes so many bytes, blanks at its end.
-const CELL: usize = 8;
-
-// How many bytes a line has before the CR at its end.
-pub fn without_return(line: &[u8]) -> usize
-    ensures { result ≤ length line.now }
+// A line without the CR at its end.
+pub fn without_return(line: &[u8]) -> &[u8]
+    ensures { (result.now ≡ take (length result.now) line.now) × (length result.now ≤ length line.now) }
 {
-    let end = line.len();
-    if end == 0 {
-        return 0;
+    line.strip_suffix(b"\r").unwrap_or(line)
+}
+
+// The part of a line that counts: what stands before a comment, or before the CR at its end.
+pub fn content(line: &[u8]) -> &[u8]
+    ensures { (result.now ≡ take (length result.now) line.now) × (length result.now ≤ length line.now) }
+{
+    let text = without_return(line);
+    match text.iter().position(|byte| *byte == b'#') {
+        Some(at) => &text[..at],
+        None => text,
     }
-    if line[end - 1] == b'\r' {
-        return end - 1;
-    }
-    end
-}
-
-// How many bytes of a line count: those before a comment, or before the CR at its end.
-pub fn content(line: &[u8]) -> usize
-    ensures { result ≤ length line.now }
-{
-    let end = without_return(line);
-    octets::find(line, 0, end, b'#')
-}
-
-// The first place from `from` on whose byte is blank, or is not, as asked.
-fn pass(line: &[u8], from: usize, blank: bool) -> usize
-    requires { from ≤ length line.now }
-    ensures { (from ≤ result) × (result ≤ length line.now) }
-{
-    let mut i = from;
-    while i < line.len() {
-        let byte = line[i];
-        if ((byte == b' ') | (byte == b'\t')) == blank {
-            return i;
-        }
-        i += 1;
-    }
-    i
-}
-
-// The next word from a place on.
-pub fn next_word(line: &[u8], from: usize) -> Word
-    ensures { Within from (length line.now) result }
-{
-    let length = line.len();
-    if length < from {
-        return Word {
-            start: length,
-            end: length,
-        };
-    }
-    let start = pass(line, from, false);
-    let end = pass(line, start, true);
-    Word { start, end }
-}
-
-// A word has the bytes of a name, which blanks fill up.
-pub fn is_name(word: &[u8], name: &[u8]) -> bool {
-    if name.len() < word.len() {
-        return false;
-    }
-    let mut i: usize = 0;
-    while i < name.len() {
-        let mut byte = b' ';
-        if i < word.len() {
-            byte = word[i];
-        }
-        if byte != name[i] {
-            return false;
-        }
-        i += 1;
-    }
-    true
-}
-
-// Which name of a table a word is, or how many there are, where it is none of them.
-pub fn find_name(word: &[u8], names: &[u8]) -> usize
-    ensures { result ≤ length names.now / 8 }
-{
-    let count = names.len() / CELL;
-    let mut i: usize = 0;
-    while i < count {
-        let start = CELL * i;
-        if is_name(word, &names[start..start + CELL]) {
-            return i;
-        }
-        i += 1;
-    }
-    count
-}
-
-// The same of a word of a line.
-pub fn name_at(line: &[u8], word: Word, names: &[u8]) -> usize
-    requires { (word.start ≤ word.end) × (word.end ≤ length line.now) }
-    ensures { result ≤ length names.now / 8 }
-{
-    let start = word.start;
-    let end = word.end;
-    find_name(&line[start..end], names)
-}
-
-// Where a line goes on after a word that may stand there: past it, or where it was.
-pub fn after_name(line: &[u8], from: usize, name: &[u8; 8]) -> usize
-    ensures { from ≤ result + (from - length line.now) }
-{
-    let word = next_word(line, from);
-    if name_at(line, word, name) == 0 {
-        return word.end;
-    }
-    from
-}
-
-// What a word says where a byte is expected.
-pub fn byte_at(line: &[u8], word: Word) -> ByteWord
-    requires { (word.start ≤ word.end) × (word.end ≤ length line.now) }
-{
-    let start = word.start;
-    let end = word.end;
-    numerals::read_byte(&line[start..end])
-}
-
-// Where a decimal number is.
-pub fn number_at(line: &[u8], word: Word) -> NumberWord
-    requires { (word.start ≤ word.end) × (word.end ≤ length line.now) }
-{
-    let start = word.start;
-    let end = word.end;
-    numerals::read_decimal(&line[start..end])
-}
-
-// Where a key is.
-pub fn key_at(line: &[u8], word: Word) -> NumberWord
-    requires { (word.start ≤ word.end) × (word.end ≤ length line.now) }
-{
-    let start = word.start;
-    let end = word.end;
-    numerals::read_key(&line[start..end])
 }

@@ -1,16 +1,25 @@
 -- The chip's event, and the firmware's record put back where it starts anew.
 use mathlib.Core.Bool.{and-false}
 use mathlib.Core.Path.{refl, ap}
-use Rattle.event_answer.specs.declared.EventAnswer.{EventAnswer}
+use Rattle.refusal.specs.Check.{tells}
+use Rattle.bus.specs.EventCall.{event_pid, event_count}
+use Rattle.event_answer.specs.Answer.{EventAnswer}
 use Rattle.model.specs.Call.{run_to}
-use Rattle.board.specs.Board.{board_to}
+use Rattle.board.specs.Board.{BoardEvent, board_to}
 use Rattle.board_record.specs.Record.{firmware_for, starts_anew}
 use Rattle.board.proofs.event.Goals as goal
 
 pub returns-then-not-is_sound : goal.returns-then-not-is_sound
 unfolding board_to run_to
 returns-then-not-is_sound c =
-    rw (← c.if-not-is_sound.ensures) (rw (c.pin.ensures, and-false (starts_anew c.args.event)), refl, refl, refl, refl)
+    let e = c.answer_with.ensures in
+    rw (← c.if-not-is_sound.ensures) (
+      rw (and-false (starts_anew c.args.event)) e,
+      refl,
+      ap (λ (a : BoardEvent). tells a.reply) e,
+      ap (λ (a : BoardEvent). event_pid a.reply) e,
+      ap (λ (a : BoardEvent). event_count a.reply) e,
+    )
 
 pub returns : goal.returns
 unfolding board_to run_to
@@ -20,7 +29,7 @@ returns c =
     rw (← c.if-not-is_sound.ensures, c.firmware_at.ensures) (
       ap
           (λ (x : EventAnswer). record {
-            board = record { chip = x.chip; firmware = firmware_for a.board.firmware a.event x.reply };
+            state = record { chip = x.state; firmware = firmware_for a.board.firmware a.event x.reply };
             reply = x.reply;
             pin = x.pin;
           })

@@ -11,20 +11,20 @@ use Rattle.board.proofs.step.Goals as goal
 pub returns-then-not-is_sound : goal.returns-then-not-is_sound
 unfolding board_to run_to
 returns-then-not-is_sound c =
-    step_told c.args.board (length c.args.reply.now) (rw (← c.if-not-is_sound.ensures) (c.stepped.ensures, refl))
+    step_told c.args.board (length c.args.reply.now) (rw (← c.if-not-is_sound.ensures) (c.answer_with.ensures, refl))
 
 pub returns-then-reply-lt64 : goal.returns-then-reply-lt64
 unfolding board_to run_to
 returns-then-reply-lt64 c =
     step_told c.args.board (length c.args.reply.now)
-    (rw (← c.if-not-is_sound.ensures, lt-ltb _ 64 c.if-reply-lt64.true) (c.stepped-then-reply-lt64.ensures, refl))
+    (rw (← c.if-not-is_sound.ensures, lt-ltb _ 64 c.if-reply-lt64.true) (c.answer_with-then-reply-lt64.ensures, refl))
 
 pub returns-then-board-eq0 : goal.returns-then-board-eq0
 unfolding board_to run_to step_calls
 returns-then-board-eq0 c =
     step_told c.args.board (length c.args.reply.now)
     (rw (← c.if-not-is_sound.ensures, le-ltb _ 64 c.if-reply-lt64.false, eq-eqb _ 0 c.if-board-eq0.true)
-    (c.stepped-then-board-eq0.ensures, refl))
+    (c.answer_with-then-board-eq0.ensures, refl))
 
 pub returns : goal.returns
 unfolding board_to step_calls
@@ -32,4 +32,4 @@ returns c =
     let s = c.serve-served.ensures in
     step_told c.args.board (length c.args.reply.now)
     (rw (← c.if-not-is_sound.ensures, le-ltb _ 64 c.if-reply-lt64.false, ne_eqb _ 0 c.if-board-eq0.false)
-    (c.stepped-2.ensures ∙ stepped_is s.0 s.1 (c.reply_of.ensures ∙ rw s.2), s.3))
+    (c.answer_with-2.ensures ∙ stepped_is s.0 s.1 (c.reply_of.ensures ∙ rw s.2), s.3))

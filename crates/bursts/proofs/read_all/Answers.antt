@@ -18,4 +18,4 @@ loop-i-preserved c =
 pub returns : goal.returns
 returns c =
     let f = packet_spi c.args.packet.now in
-    finish f _ _ _ _ _ _ _ _ _ _ c.loop-i.invariant.1 c.loop-i-test.false
+    finish f _ _ _ _ _ _ _ _ _ _ c.loop-i.invariant.1 (omega arith)

@@ -1,7 +1,6 @@
 -- The law of the byte loop, on the read position.
 use mathlib.Core.Path.{◌≡◌}
 use mathlib.Core.Bool.{false}
-use Prim.Native.Nat.{◌-◌}
 use lib.ListN.{length}
 use Rattle.model.proofs.Loop.{Turn}
 use Rattle.bursts.specs.Burst.{packet_spi}
@@ -11,6 +10,3 @@ abbrev pub invariant-loop-i : goal.invariant-loop-i
 invariant-loop-i l =
     (l.end ≡ length l.packet)
     × Turn (packet_spi l.packet) false l.bytes l.fn.reply 1 l.readpos 0 l.reply l.position 0 l.i
-
-abbrev pub decreases-loop-i : goal.decreases-loop-i
-decreases-loop-i l = length l.bytes - l.i

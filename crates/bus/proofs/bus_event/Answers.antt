@@ -1,4 +1,5 @@
 -- Each code has its rule, and none is seen where the bus is not.
+use Rattle.std.specs.Prelude.{Ok}
 use Rattle.std.proofs.Common.{◌≡◌, ◌∙◌, ap, sym, arith}
 use Rattle.chip.specs.declared.Chip.{Chip}
 use Rattle.chip.specs.Mask.{busactirq}
@@ -13,13 +14,13 @@ pub returns-then-not-seen : goal.returns-then-not-seen
 returns-then-not-seen c =
     let a = c.args in
     λ vs. c.answer_with.ensures
-    ∙ seen_code a.chip a.event vs (λ (o : Outcome Chip Reply). event_answer_with a.chip Silence ≡ outcome_answer o) c.requires
+    ∙ seen_code a.chip a.event vs (λ (o : Outcome Chip Reply). event_answer_with a.chip (Ok Silence) ≡ outcome_answer o) c.requires
     (λ (f : Chip → Chip). unseen f a.chip a.event vs (sym c.seen.ensures ∙ c.if-not-seen.true))
 
 pub returns-in_default : goal.returns-in_default
 returns-in_default c =
     let a = c.args in
     λ vs. c.answer_with-in_default.ensures
-    ∙ ap (λ (d : Chip). event_answer_with d Done) c.raise_usbirq-in_default.ensures
+    ∙ ap (λ (d : Chip). event_answer_with d (Ok Done)) c.raise_usbirq-in_default.ensures
     ∙ when_seen_law (raise_usbirq busactirq) a.chip a.event vs (sym c.seen.ensures ∙ c.if-not-seen.false)
     ∙ ap outcome_answer (rule_of 9 a.chip a.event vs (omega arith))

@@ -7,4 +7,4 @@ pub answer-requires : goal.answer-requires
 answer-requires c =
     let d = c.args.chip in
     let sound = sound_clauses d c.requires.0 in
-    (sound.ep0.count, oldest_small 2 d.ep2.ring sound.ep2.ring, sound.ep3.count, c.requires.1)
+    ((sound.ep0.count, oldest_small 2 d.ep2.ring sound.ep2.ring, sound.ep3.count), c.requires.1)

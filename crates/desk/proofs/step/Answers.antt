@@ -1,24 +1,21 @@
 -- The board's own answer, on the desk's records.
 use Rattle.std.proofs.Common.{◌≡◌, length, refl, rules}
+use Rattle.board.specs.Board.{board_step}
+use Rattle.classroom_record.specs.declared.Desk.{Desk}
 use Rattle.classroom.specs.Calls.{desk_step, step_lent}
-use Rattle.classroom.proofs.Here.{calling_nowhere, calling_by}
+use Rattle.desk.proofs.Seat.{seat_read}
 use Rattle.desk.proofs.step.Goals as goal
 
-pub returns-then-i-ge16 : goal.returns-then-i-ge16
+pub returns-in-Ok : goal.returns-in-Ok
 unfolding desk_step step_lent
-returns-then-i-ge16 c = rw (calling_nowhere c.args.room c.args.number c.args.key c.if-i-ge16.true) (refl, refl)
-
-pub returns-in-Accepted : goal.returns-in-Accepted
-unfolding desk_step step_lent
-returns-in-Accepted c =
+returns-in-Ok c =
     let a = c.args in
+    let s = c.in-Ok.ensures in
     let sixteen : length a.room.desks ≡ 16 = search rules in
-    let found = calling_by a.room a.number sixteen c.if-i-ge16.false _ a.key c.check_key-checked.ensures c.in-Accepted.is in
-    rw (found.0, ← found.1) (rw c.step-answer.ensures.0, c.step-answer.ensures.1)
+    let found = seat_read a.room a.number c.in-Ok.i _ (λ (d : Desk). board_step d.board (length a.reply.now)) sixteen s.0 s.1
+    c.step-answer.ensures.0 in
+    rw (s.2, ← found, ← s.0) (rw c.step-answer.ensures.0, c.step-answer.ensures.1)
 
-pub returns-in-Refused : goal.returns-in-Refused
+pub returns-in-Err : goal.returns-in-Err
 unfolding desk_step step_lent
-returns-in-Refused c =
-    let a = c.args in
-    let sixteen : length a.room.desks ≡ 16 = search rules in
-    rw (calling_by a.room a.number sixteen c.if-i-ge16.false _ a.key c.check_key-checked.ensures c.in-Refused.is).0 (refl, refl)
+returns-in-Err c = rw c.in-Err.ensures (c.turned_away.ensures, refl)

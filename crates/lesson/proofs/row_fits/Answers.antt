@@ -1,12 +1,15 @@
--- What is read at a place of the file is what is read at the start of the file from that place on.
-use Rattle.std.proofs.Common.{ℕ, ◌&&◌, eqb, get_or, sym, ap, ◌∙◌, ap₂, add-zero, get_or-drop, drop-drop}
-use Rattle.little_endian.specs.Number.{from_little_endian}
-use Rattle.lesson.specs.Lesson.{is_kind}
+-- The two tests are those of the row that stands at the place (`fits_at`).
+use Rattle.std.proofs.Common.{ℕ, Bool, ◌&&◌, eqb, ◌∙◌, ap₂}
+use Rattle.lesson.proofs.Turn.{fits_at}
 use Rattle.lesson.proofs.row_fits.Goals as goal
 
-pub returns : goal.returns
-returns c =
-    let f = c.args.file.now in
-    ap₂ (λ (k n : ℕ). is_kind k && eqb n c.args.offset)
-    (sym (get_or-drop c.args.place f 0 0 ∙ ap (λ (n : ℕ). get_or f n 0) (add-zero c.args.place)))
-    (c.read_u32-found.ensures ∙ ap (from_little_endian 4) (sym (drop-drop 5 c.args.place f)))
+pub returns-then-is_kind : goal.returns-then-is_kind
+returns-then-is_kind c =
+    ap₂ (λ (k : Bool) (n : ℕ). k && eqb n c.args.offset) c.if-is_kind.ensures c.read_u32-found.ensures
+    ∙ fits_at c.args.file.now c.args.place c.args.offset
+
+pub returns-else-is_kind : goal.returns-else-is_kind
+returns-else-is_kind c =
+    c.if-is_kind.false
+    ∙ ap₂ (λ (k : Bool) (n : ℕ). k && eqb n c.args.offset) c.if-is_kind.ensures c.read_u32-found.ensures
+    ∙ fits_at c.args.file.now c.args.place c.args.offset

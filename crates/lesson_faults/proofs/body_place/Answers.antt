@@ -5,7 +5,7 @@ use Rattle.lesson.specs.Lesson.{table_end}
 use Rattle.lesson.specs.Read.{offset_at}
 use Rattle.lesson_faults.proofs.body_place.Goals as goal
 
-first : (f : List ℕ) → offset_at f 0 ≡ table_end (get_or f 1 0)
+first : (f : List ℕ) → table_end (get_or f 1 0) ≡ offset_at f 0
 unfolding offset_at
 first f = refl
 
@@ -15,11 +15,10 @@ next f i =
     ap (λ (xs : List ℕ). offset_at f i + from_little_endian 2 xs) (sym (drop-drop 9 (2 + 11 * i) f)) ∙ ap (offset_at f) (sym (add-one i))
 
 pub loop-i-init : goal.loop-i-init
-loop-i-init c = (search rules, search rules, rw c.wide.ensures.0 (sym (first c.args.file.now)))
+loop-i-init c = (search rules, first c.args.file.now)
 
 pub loop-i-preserved : goal.loop-i-preserved
 loop-i-preserved c =
     let f : List ℕ = c.args.file.now in
     let l = c.loop-i in
-    let here : l.offset + c.read_u16.result ≡ offset_at f (l.i + 1) = rw (l.invariant.2, c.read_u16.ensures) (next f l.i) in
-    (search rules, search rules, here)
+    (search rules, rw (l.invariant.1, c.read_u16.ensures) (next f l.i))

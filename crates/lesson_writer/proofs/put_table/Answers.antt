@@ -1,5 +1,5 @@
 -- The next row and the rows after it are the rows that were left.
-use Rattle.std.proofs.Common.{ℕ, ◌+◌, List, length, get_or, drop, sym, ap, ◌∙◌, arith, drop_of_length-le}
+use Rattle.std.proofs.Common.{ℕ, ◌+◌, ◌*◌, List, length, get_or, drop, sym, ap, ◌∙◌, arith, drop_of_length-le}
 use Rattle.std.proofs.lemmas.List.Edits.{sets}
 use Rattle.std.proofs.Math.Seq.{length-sets}
 use Rattle.lesson.specs.Lesson.{row}
@@ -15,15 +15,15 @@ loop-i-preserved c =
     let ns = c.args.lengths.now in
     let next = c.put_row.ensures in
     record {
-      within = omega arith;
-      next = omega arith;
-      sized = ap length next ∙ length-sets l.file l.place (row (get_or ks l.i 0) (get_or ts l.i 0) l.offset (get_or ns l.i 0))
+      sized =
+          ap length next
+          ∙ length-sets l.file (2 + 11 * l.i) (row (get_or ks l.i 0) (get_or ts l.i 0) l.offset (get_or ns l.i 0))
           ∙ l.invariant.sized;
       small = omega (arith, total_next l.i ns (omega arith));
       same =
-          ap (λ (d : List ℕ). sets d (l.place + 11)
+          ap (λ (d : List ℕ). sets d (2 + 11 * (l.i + 1))
           (rows (l.offset + get_or ns l.i 0) (drop (l.i + 1) ks) (drop (l.i + 1) ts) (drop (l.i + 1) ns))) next
-          ∙ row_put ks ts ns l.file l.i l.place l.offset c.loop-i-test.true c.requires.ticks c.requires.lengths
+          ∙ row_put ks ts ns l.file l.i l.offset c.loop-i-test.true c.requires.ticks c.requires.lengths
           ∙ l.invariant.same;
     }
 
@@ -31,7 +31,7 @@ pub returns : goal.returns
 unfolding rows
 returns c =
     let l = c.loop-i in
-    let none = drop_of_length-le c.args.kinds.now c.loop-i-test.false in
-    sym (ap (λ (ks : List ℕ). sets l.file l.place
+    let none = drop_of_length-le c.args.kinds.now {i = l.i} (omega arith) in
+    sym (ap (λ (ks : List ℕ). sets l.file (2 + 11 * l.i)
     (rows l.offset ks (drop l.i c.args.ticks.now) (drop l.i c.args.lengths.now))) none)
     ∙ l.invariant.same

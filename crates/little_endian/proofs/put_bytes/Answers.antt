@@ -1,11 +1,16 @@
 -- A run copied to a place on is stored there byte by byte.
-use Rattle.std.proofs.Common.{◌-◌, length, refl, ap, ◌∙◌}
-use borrow.Rule.Slice.PartMut.{put_mid}
-use Rattle.ring.proofs.Copy.{copied_in}
+use Rattle.std.proofs.Common.{◌≡◌, ◌+◌, ◌-◌, length, arith, append_assoc, drop-drop}
+use Rattle.std.proofs.lemmas.List.Edits.{sets-eq}
 use Rattle.little_endian.proofs.put_bytes.Goals as goal
 
 pub returns : goal.returns
 returns c =
-    let n = length c.args.output.now in
-    ap (put_mid c.args.at (n - c.args.at) c.args.output.now) c.copy.ensures.copied
-    ∙ copied_in c.args.output.now c.args.run.now c.args.at n refl c.requires
+    let n = length c.args.run.now in
+    let size : c.args.at + n - c.args.at ≡ n = omega arith in
+    rw (
+      c.copy_from_slice.ensures.after,
+      sets-eq c.args.run.now c.args.output.now c.args.at c.requires,
+      size,
+      drop-drop,
+      append_assoc,
+    )

@@ -7,15 +7,15 @@ use Rattle.spi.proofs.transfer.Goals as goal
 pub run-after-requires : goal.run-after-requires
 run-after-requires c =
     let a = c.args in
-    let f = fitting a.chip (length a.bytes.now) (length a.reply.now) (sym c.in-Accepted.ensures) in
+    let f = fitting a.chip (length a.bytes.now) (length a.reply.now) (sym c.in-Ok.ensures) in
     (f.ep0, f.ep1, f.some, f.fits)
 
-pub returns-in-Refused : goal.returns-in-Refused
-returns-in-Refused c =
+pub returns-in-Err : goal.returns-in-Err
+returns-in-Err c =
     let a = c.args in
-    refused_call a.chip a.bytes.now a.reply.now _ _ (sym c.in-Refused.ensures) c.pin.ensures
+    refused_call a.chip a.bytes.now a.reply.now _ _ (sym c.in-Err.ensures) c.pin.ensures
 
-pub returns-in-Accepted : goal.returns-in-Accepted
-returns-in-Accepted c =
+pub returns-in-Ok : goal.returns-in-Ok
+returns-in-Ok c =
     let a = c.args in
-    accepted_call a.chip _ a.bytes.now a.reply.now _ _ (sym c.in-Accepted.ensures) c.run-after.ensures c.pin-in-Accepted.ensures
+    accepted_call a.chip _ a.bytes.now a.reply.now _ _ (sym c.in-Ok.ensures) c.run-after.ensures c.pin-in-Ok.ensures

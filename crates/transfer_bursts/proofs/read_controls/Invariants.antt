@@ -1,8 +1,5 @@
 -- The law of the byte loop, at registers whose read moves nothing.
-use mathlib.Core.Path.{◌≡◌}
 use mathlib.Core.Bool.{false}
-use Prim.Native.Nat.{◌-◌}
-use lib.ListN.{length}
 use Rattle.model.proofs.Loop.{Turn}
 use Rattle.rules.specs.Spi.{max3420e_spi}
 use Rattle.transfer_bursts.specs.Control.{ReadsNoFifo}
@@ -10,8 +7,5 @@ use Rattle.transfer_bursts.proofs.read_controls.Given as goal
 
 abbrev pub invariant-loop-i : goal.invariant-loop-i
 invariant-loop-i l =
-    (l.end ≡ length l.bytes) × ReadsNoFifo l.selected
+    ReadsNoFifo l.selected
     × Turn max3420e_spi false l.bytes l.fn.reply 1 l.chip l.register l.reply l.chip l.selected l.i
-
-abbrev pub decreases-loop-i : goal.decreases-loop-i
-decreases-loop-i l = length l.bytes - l.i

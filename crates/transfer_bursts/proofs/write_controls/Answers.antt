@@ -34,4 +34,4 @@ loop-i-preserved c =
     )
 
 pub returns : goal.returns
-returns c = finish max3420e_spi _ _ _ _ _ _ _ _ _ _ c.loop-i.invariant.1 c.loop-i-test.false
+returns c = finish max3420e_spi _ _ _ _ _ _ _ _ _ _ c.loop-i.invariant.1 (omega arith)
