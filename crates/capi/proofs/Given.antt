@@ -21,7 +21,7 @@ use Rattle.bus.proofs.Call.{refusal_of_law}
 use Rattle.board_record.specs.declared.Board.{Board}
 use Rattle.board.specs.Board.{step_checked, step_firmware, step_buffer, checked_calls, board_to, board_step}
 use Rattle.board.proofs.Numbers.{step_refusal_law}
-use Rattle.flat.specs.Answer.{flat_answer_of, flat_transfer, flat_event, flat_step, flat_request}
+use Rattle.flat.specs.Answer.{flat_transfer, flat_event, flat_step, flat_request}
 
 -- ---- a call to the model
 
@@ -48,14 +48,14 @@ transfer_tells_law c k = checked_tells c k (checked max3420e c k)
 pub transfer_given : (c : Chip) (vs buffer : List ℕ) (n : ℕ) → (flat_transfer (transfer_answer c (transfer vs (length buffer)))).refusal ≡ suc n
     → ((flat_transfer (transfer_answer c (transfer vs (length buffer)))).chip ≡ c)
     × (buffer_after (answer_of max3420e c (transfer vs (length buffer))) buffer ≡ buffer)
-unfolding flat_answer_of
+unfolding flat_transfer
 transfer_given c vs buffer n h =
     let k = transfer vs (length buffer) in
     call_kept c k buffer n (sym (ap checked_number (transfer_tells_law c k)) ∙ h)
 
 pub event_given : (c : Chip) (e : Event) (vs buffer : List ℕ) (n : ℕ) → (flat_event (event_answer c e vs (length buffer))).refusal ≡ suc n
     → ((flat_event (event_answer c e vs (length buffer))).chip ≡ c) × (event_buffer c e vs buffer ≡ buffer)
-unfolding flat_answer_of
+unfolding flat_event
 event_given c e vs buffer n h =
     let k = event e vs (length buffer) in
     call_kept c k buffer n (sym (ap checked_number (refusal_of_law c k)) ∙ h)

@@ -51,6 +51,7 @@ pub fn max3420e_power_on() -> Chip
     Chip::power_on()
 }
 
+#[tactic(auto, unfolding(flat::specs::Answer::flat_answer_of, flat::specs::Answer::flat_transfer))]
 pub fn max3420e_transfer(chip: Chip, bytes: &[u8], reply: &mut [u8]) -> FlatAnswer
     ensures { (result ≡ flat_transfer (transfer_answer chip (Call.transfer bytes.now (length reply.old))))
         × (reply.new
@@ -59,6 +60,7 @@ pub fn max3420e_transfer(chip: Chip, bytes: &[u8], reply: &mut [u8]) -> FlatAnsw
     flat_answer(spi::transfer(chip, bytes, reply))
 }
 
+#[tactic(auto, unfolding(flat::specs::Answer::flat_answer_of, flat::specs::Answer::flat_event))]
 pub fn max3420e_event(
     chip: Chip,
     code: u8,

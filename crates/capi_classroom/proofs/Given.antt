@@ -32,7 +32,7 @@ use Rattle.classroom_record.specs.Record.{closed_desk, desk_at, set_desk}
 use Rattle.classroom.specs.Calls.{unless_refused_desk, opening_checked, closing_checked, calling_checked, opened_desk, set_board, board_at, calling_to}
 use Rattle.classroom.specs.Calls.{lent_after, open_answer, close_answer, desk_by, desk_transfer, transfer_lent}
 use Rattle.classroom.specs.Calls.{desk_event, event_lent, desk_step, step_lent}
-use Rattle.flat_classroom.specs.Answer.{flat_teacher, flat_desk_answer_of, flat_desk_transfer, flat_desk_event, flat_desk_step}
+use Rattle.flat_classroom.specs.Answer.{flat_teacher, flat_desk_transfer, flat_desk_event, flat_desk_step}
 use Rattle.capi.proofs.Given.{call_kept, transfer_tells_law, step_kept}
 
 -- ---- the teacher's calls
@@ -116,7 +116,7 @@ pub desk_transfer_given : (room : Classroom) (d : DeskNumber) (key : ℕ) (vs bu
     → (flat_desk_transfer (desk_transfer room d key (transfer vs (length buffer)))).refusal ≡ suc n
     → ((flat_desk_transfer (desk_transfer room d key (transfer vs (length buffer)))).classroom ≡ room)
     × (transfer_lent room d key vs buffer ≡ buffer)
-unfolding flat_desk_answer_of desk_transfer transfer_lent
+unfolding flat_desk_transfer desk_transfer transfer_lent
 desk_transfer_given room d key vs buffer n h =
     transfer_kept room d (transfer vs (length buffer)) buffer n (calling_checked room d key) h
 
@@ -130,7 +130,7 @@ pub desk_event_given : (room : Classroom) (d : DeskNumber) (key : ℕ) (e : Even
     → (flat_desk_event (desk_event room d key (event e vs (length buffer)))).refusal ≡ suc n
     → ((flat_desk_event (desk_event room d key (event e vs (length buffer)))).classroom ≡ room)
     × (event_lent room d key e vs buffer ≡ buffer)
-unfolding flat_desk_answer_of desk_event event_lent
+unfolding flat_desk_event desk_event event_lent
 desk_event_given room d key e vs buffer n h =
     event_kept room d (event e vs (length buffer)) buffer n (calling_checked room d key) h
 

@@ -35,6 +35,7 @@ pub fn max3420e_close_desk(classroom: Classroom, desk: u8) -> FlatTeacherAnswer
     flat_teacher(classroom::close(classroom, DeskNumber(desk)))
 }
 
+#[tactic(auto, unfolding(flat_classroom::specs::Answer::flat_desk_answer_of, flat_classroom::specs::Answer::flat_desk_transfer))]
 pub fn max3420e_desk_transfer(
     classroom: Classroom,
     desk: u8,
@@ -49,6 +50,7 @@ pub fn max3420e_desk_transfer(
     flat_desk_answer(desk::transfer(classroom, DeskNumber(desk), key, bytes, reply))
 }
 
+#[tactic(auto, unfolding(flat_classroom::specs::Answer::flat_desk_answer_of, flat_classroom::specs::Answer::flat_desk_event))]
 pub fn max3420e_desk_event(
     classroom: Classroom,
     desk: u8,

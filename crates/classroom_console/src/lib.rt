@@ -9,7 +9,7 @@ use classroom::DeskNumber;
 use classroom_script::ClassroomCommand;
 use messages::{CLASSROOM_HELP, Reason};
 use output::Count;
-use roster::{Roster, Seat};
+use roster::{Pupil, Roster, Seat};
 use std::fmt;
 use std::fmt::Write;
 
@@ -69,7 +69,10 @@ fn perform(
         ClassroomCommand::Close(desk) => close(roster, number, desk, out),
         ClassroomCommand::Desks => write_desks(roster, number, out),
         ClassroomCommand::Help => out.write_str(CLASSROOM_HELP),
-        ClassroomCommand::Call(desk, key, line) => roster.call(desk, key, number, line, bytes, out),
+        ClassroomCommand::Call(desk, key, line) => {
+            let pupil = Pupil { number: desk, key };
+            roster.call(pupil, number, line, bytes, out)
+        }
     }
 }
 

@@ -2,7 +2,7 @@
 #![tactic(auto)]
 
 use chip::Chip;
-use output::Bytes;
+use output::{Bytes, write_column};
 use ring::Ring;
 use std::fmt;
 use std::fmt::Write;
@@ -30,14 +30,17 @@ fn write_endpoint(
     position: u8,
     packets: &[Packet],
 ) -> fmt::Result {
-    write!(out, "  {name:<11}{toggle:<7}position {position:>3}")?;
+    out.write_str("  ")?;
+    write_column(out, name, 11)?;
+    write_column(out, toggle, 7)?;
+    write!(out, "position {position:>3}")?;
     if packets.is_empty() {
-        write!(out, "  nothing waits")?;
+        out.write_str("  nothing waits")?;
     }
     for packet in packets {
         write!(out, "{packet}")?;
     }
-    writeln!(out, "")
+    out.write_str("\n")
 }
 
 fn toggle_name(toggle: u8) -> &'static str {

@@ -8,14 +8,17 @@ use std::fmt::Display;
 use std::fs::OpenFile;
 use std::io::{ErrorKind, Write};
 use std::rt::Files;
-use std::{fs, io, str};
+use std::{fmt, fs, io, str};
 
 // Something failed, and why stands on standard error already.
 #[derive(Clone, Copy)]
 pub struct Told;
 
+// By one write, so that lines of programs that run side by side stay whole.
 pub fn tell<D: Display + Drop>(err: &impl Print, text: D) -> Told {
-    let _ = err.print(text);
+    let mut out: Output<_, 65536> = Output::new(err);
+    let _ = fmt::Write::write_fmt(&mut out, format_args!("{text}"));
+    let _ = out.flush();
     Told
 }
 
@@ -100,6 +103,8 @@ pub fn finish<P: Print, const PAGE: usize>(
     err: &impl Print,
     out: &mut Output<'_, P, PAGE>,
 ) -> Result<(), Told> {
-    out.flush()
-        .map_err(|error| fail(err, "max3420e: ", b"standard output", error))
+    out.flush().map_err(|error| {
+        output::tell_failure(err, b"max3420e: standard output", error);
+        Told
+    })
 }

@@ -4,8 +4,8 @@ use Rattle.refusal.specs.declared.Refusal.{Refusal}
 use Rattle.refusal.specs.Check.{tells, checked_number, checked_found}
 use Rattle.chip.specs.Pin.{pin_number}
 use Rattle.chip.specs.declared.CallAnswer.{CallAnswer}
-use Rattle.spi.specs.Transfer.{transfer_count}
-use Rattle.bus.specs.EventCall.{event_pid, event_count}
+use Rattle.spi.specs.Transfer.{transfer_refusal, transfer_found, transfer_count}
+use Rattle.bus.specs.EventCall.{event_refusal, event_found, event_pid, event_count}
 use Rattle.board.specs.Board.{step_refusal, step_found, step_kind, step_count}
 use Rattle.classroom_record.specs.declared.Classroom.{Classroom}
 use Rattle.classroom.specs.declared.TeacherAnswer.{TeacherAnswer}
@@ -30,11 +30,27 @@ flat_desk_answer_of kind count a =
     }
 
 -- a transfer is no packet on the bus: no PID
-abbrev pub flat_desk_transfer : DeskTransfer → FlatDeskAnswer
-flat_desk_transfer = flat_desk_answer_of (λ r. 0) transfer_count
+unfoldable pub flat_desk_transfer : DeskTransfer → FlatDeskAnswer
+flat_desk_transfer a =
+    record {
+      classroom = a.state;
+      refusal = transfer_refusal a.reply;
+      pid = 0;
+      count = transfer_count a.reply;
+      pin = pin_number a.pin;
+      found = transfer_found a.reply;
+    }
 
-abbrev pub flat_desk_event : DeskEvent → FlatDeskAnswer
-flat_desk_event = flat_desk_answer_of event_pid event_count
+unfoldable pub flat_desk_event : DeskEvent → FlatDeskAnswer
+flat_desk_event a =
+    record {
+      classroom = a.state;
+      refusal = event_refusal a.reply;
+      pid = event_pid a.reply;
+      count = event_count a.reply;
+      pin = pin_number a.pin;
+      found = event_found a.reply;
+    }
 
 unfoldable pub flat_desk_step : DeskStep → FlatDeskStep
 flat_desk_step a =

@@ -7,7 +7,7 @@ ghost use Rattle.lesson.specs.Ticks.{elapsed_ticks};
 use answers::{Answer, Reply};
 use chip::{CallAnswer, Chip};
 use lesson::{Entry, EntryKind, Lesson};
-use output::Count;
+use output::{Count, Name};
 use std::fmt;
 use std::fmt::Write;
 
@@ -92,19 +92,20 @@ impl Run {
 
 // The summary of a lesson that is recorded in a file of that name: the bytes of the file.
 pub fn write_recorded(
-    path: &str,
+    path: &[u8],
     entries: usize,
     size: usize,
     out: &mut impl Write,
 ) -> fmt::Result {
     let entries = Count(entries as u64, "entry", "entries");
     let bytes = Count(size as u64, "byte", "bytes");
-    writeln!(out, "{path}: {entries}, {bytes}")
+    let name = Name(path);
+    writeln!(out, "{name}: {entries}, {bytes}")
 }
 
 // Plays a lesson, the file of that name: the calls of all entries one by one from power-on, each lent 4,096 bytes. The summary tells how
 // many entries were refused, and the ticks.
-pub fn play(path: &str, lesson: &Lesson, out: &mut impl Write) -> fmt::Result {
+pub fn play(path: &[u8], lesson: &Lesson, out: &mut impl Write) -> fmt::Result {
     let mut reply = [0u8; 4096];
     let mut run = Run::power_on();
     // Not `enumerate`: that its count has room for every list of entries was not proved.
@@ -114,5 +115,6 @@ pub fn play(path: &str, lesson: &Lesson, out: &mut impl Write) -> fmt::Result {
     let entries = Count(lesson.len() as u64, "entry", "entries");
     let refused = run.refused;
     let ticks = Count(run.ticks, "tick", "ticks");
-    writeln!(out, "{path}: {entries}, {refused} refused, {ticks}")
+    let name = Name(path);
+    writeln!(out, "{name}: {entries}, {refused} refused, {ticks}")
 }

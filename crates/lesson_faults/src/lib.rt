@@ -5,7 +5,7 @@ ghost use Rattle.std.specs.Prelude.{◌≡◌, ◌+◌, ◌*◌, ◌≤◌, leng
 ghost use Rattle.lesson.specs.Read.{offset_at};
 
 use lesson::{ROW, SIZE};
-use output::Count;
+use output::{Count, Name};
 use refusal::Refusal;
 use std::fmt;
 
@@ -118,20 +118,20 @@ fn fault_at(file: &[u8], entry: usize) -> Fault {
 // The refusal of a file that is no lesson: which file it is, the refusal's number, the entry that it names, and why.
 #[derive(Clone, Copy)]
 pub struct NoLesson<'a> {
-    pub path: &'a str,
+    pub path: &'a [u8],
     pub file: &'a [u8],
     pub refusal: Refusal,
 }
 
 impl<'a> fmt::Display for NoLesson<'a> {
     fn fmt<W: fmt::Write>(&self, f: &mut fmt::Formatter<W>) -> fmt::Result {
-        let path = self.path;
+        let name = Name(self.path);
         let number = self.refusal.number();
         let entry = self.refusal.found();
         let fault = fault_at(self.file, entry);
         writeln!(
             f,
-            "{path} is no lesson: refused {number} entry {entry}: {fault}"
+            "{name} is no lesson: refused {number} entry {entry}: {fault}"
         )
     }
 }

@@ -15,10 +15,10 @@ use std::rt::Files;
 
 // Plays the lesson of a file. One byte more than a lesson has is read, so that a longer file is seen.
 pub fn replay(rt: &(impl Files + Print), err: &impl Print, path: &[u8]) -> Result<(), Told> {
-    let (path, mut input) = files::open(rt, err, path)?;
+    let (name, mut input) = files::open(rt, err, path)?;
     let mut file = [0u8; 65537];
     let length = files::read_whole(&mut input, &mut file).map_err(|error| files::fail_read(
-        err, path, error,
+        err, name, error,
     ))?;
     let file = &file[..length];
     let lesson = Lesson::new(file).map_err(|refusal| {
@@ -61,19 +61,15 @@ fn record_line(
 }
 
 // Records the lines of a script to its end, or to the first that is wrong. A proved loop has to end: no run uses its turns up.
-fn record_lines<R: Read + Drop>(
-    err: &impl Print,
-    script: &str,
-    input: R,
-) -> Result<Recording, Told> {
+fn record_lines(err: &impl Print, script: &str, input: &mut impl Read) -> Result<Recording, Told> {
     let mut bytes = [0u8; 16384];
-    let mut session = Session::begin(input);
+    let mut session = Session::begin();
     let mut recording = Recording::begin();
     let mut read = Ok(());
     for _ in 0..u64::MAX {
         match session.line() {
             Some(line) => record_line(err, script, line, &mut bytes, &mut recording)?,
-            None => match session.read() {
+            None => match session.read(input) {
                 Some(Ok(())) => {}
                 Some(Err(error)) => read = Err(files::fail_read(err, script, error)),
                 None => break,
@@ -92,29 +88,30 @@ fn write_lesson(
     recording: &Recording,
 ) -> Result<(), Told> {
     let mut file = [0u8; 65536];
-    let kinds = recording.kinds.as_slice();
-    let ticks = recording.ticks.as_slice();
-    let lengths = recording.lengths.as_slice();
-    let bodies = recording.bodies.as_slice();
+    let count = recording.count;
+    let kinds = &recording.kinds[..count];
+    let ticks = &recording.ticks[..count];
+    let lengths = &recording.lengths[..count];
+    let bodies = &recording.bodies[..recording.size];
     match lesson_writer::write(kinds, ticks, lengths, bodies, &mut file) {
         Ok(size) => {
-            let name = files::overwrite(rt, err, path, &file[..size])?;
+            files::overwrite(rt, err, path, &file[..size])?;
             let mut out: Output<_, 65536> = Output::new(rt);
-            let _ = lesson_console::write_recorded(name, kinds.len(), size, &mut out);
+            let _ = lesson_console::write_recorded(path, count, size, &mut out);
             files::finish(err, &mut out)
         }
         Err(_) => Err(files::tell(err, "max3420e: what was recorded is no lesson\n")),
     }
 }
 
-// Writes the lesson of a script to a file, or nothing where the script is wrong.
+// Writes the lesson of a script to a file, or nothing where the script is wrong. The script stays open till then: it may be the same pipe.
 pub fn record(
     rt: &(impl Files + Print),
     err: &impl Print,
     script: &[u8],
     path: &[u8],
 ) -> Result<(), Told> {
-    let (script, input) = files::open(rt, err, script)?;
-    let recording = record_lines(err, script, input)?;
+    let (script, mut input) = files::open(rt, err, script)?;
+    let recording = record_lines(err, script, &mut input)?;
     write_lesson(rt, err, path, &recording)
 }

@@ -69,17 +69,17 @@ impl Listener for Roster {
 
 // Takes the lines of an input to its end. What waits on the page is written before each read, so that who types sees it. A proved loop
 // has to end, and nothing says that a file does: no run uses its turns up.
-fn run<L: Listener, R: Read + Drop>(
+fn run<L: Listener>(
     rt: &impl Print,
     err: &impl Print,
     mut listener: L,
-    input: R,
+    input: &mut impl Read,
     path: &str,
     typed: bool,
 ) -> Result<(), Told> {
     let mut bytes = [0u8; 16384];
     let mut out: Output<_, 65536> = Output::new(rt);
-    let mut session = Session::begin(input);
+    let mut session = Session::begin();
     let mut read = Ok(());
     if typed {
         let _ = out.write_str(L::GREETING);
@@ -94,7 +94,7 @@ fn run<L: Listener, R: Read + Drop>(
             continue;
         }
         files::finish(err, &mut out)?;
-        match session.read() {
+        match session.read(input) {
             Some(Ok(())) => {}
             Some(Err(error)) => read = Err(files::fail_read(err, path, error)),
             None => break,
@@ -119,7 +119,8 @@ fn name_at<'a>(
         Ok(length) => Ok(&room[..length]),
         Err(_) => {
             let error = io::Error::from_raw_os_error(NAME_TOO_LONG);
-            Err(files::fail(err, "max3420e: ", b"the file's name", error))
+            output::tell_failure(err, b"max3420e: the file's name", error);
+            Err(Told)
         }
     }
 }
@@ -130,7 +131,8 @@ fn run_typed(
     listener: impl Listener,
     typed: bool,
 ) -> Result<(), Told> {
-    run(rt, err, listener, rt.reader(), "standard input", typed)
+    let mut input = rt.reader();
+    run(rt, err, listener, &mut input, "standard input", typed)
 }
 
 // Runs on the file that an argument names.
@@ -142,8 +144,8 @@ fn run_file(
 ) -> Result<(), Told> {
     let mut room = [0u8; 4096];
     let path = name_at(rt, err, place, &mut room)?;
-    let (path, input) = files::open(rt, err, path)?;
-    run(rt, err, listener, input, path, false)
+    let (path, mut input) = files::open(rt, err, path)?;
+    run(rt, err, listener, &mut input, path, false)
 }
 
 fn replay(rt: &(impl Env + Files + Print), err: &impl Print) -> Result<(), Told> {

@@ -2,57 +2,58 @@
 #![tactic(auto)]
 
 use chip::Chip;
+use output::{Bytes, write_column};
 use std::fmt;
 use std::fmt::Write;
 
-// A register's name and those of its bits, bit 7 first: an unused bit and a bit of a number have none, and so have the registers that hold
+// How a register's line begins, with its number and its name; and the names of its bits, bit 7 first: an unused bit and a bit of a number have none, and so have the registers that hold
 // a number or a byte of a FIFO. A slice, not an array of eight or none: that form has no generated proof.
 #[derive(Clone, Copy)]
 struct Register {
-    name: &'static str,
+    head: &'static str,
     bits: &'static [&'static str],
 }
 
 // R0 to R20
 const REGISTERS: [Register; 21] = [
     Register {
-        name: "EP0FIFO",
+        head: "  R0   EP0FIFO",
         bits: &[],
     },
     Register {
-        name: "EP1OUTFIFO",
+        head: "  R1   EP1OUTFIFO",
         bits: &[],
     },
     Register {
-        name: "EP2INFIFO",
+        head: "  R2   EP2INFIFO",
         bits: &[],
     },
     Register {
-        name: "EP3INFIFO",
+        head: "  R3   EP3INFIFO",
         bits: &[],
     },
     Register {
-        name: "SUDFIFO",
+        head: "  R4   SUDFIFO",
         bits: &[],
     },
     Register {
-        name: "EP0BC",
+        head: "  R5   EP0BC",
         bits: &[],
     },
     Register {
-        name: "EP1OUTBC",
+        head: "  R6   EP1OUTBC",
         bits: &[],
     },
     Register {
-        name: "EP2INBC",
+        head: "  R7   EP2INBC",
         bits: &[],
     },
     Register {
-        name: "EP3INBC",
+        head: "  R8   EP3INBC",
         bits: &[],
     },
     Register {
-        name: "EPSTALLS",
+        head: "  R9   EPSTALLS",
         bits: &[
             "",
             "ACKSTAT",
@@ -65,7 +66,7 @@ const REGISTERS: [Register; 21] = [
         ],
     },
     Register {
-        name: "CLRTOGS",
+        head: "  R10  CLRTOGS",
         bits: &[
             "EP3DISAB",
             "EP2DISAB",
@@ -78,7 +79,7 @@ const REGISTERS: [Register; 21] = [
         ],
     },
     Register {
-        name: "EPIRQ",
+        head: "  R11  EPIRQ",
         bits: &[
             "",
             "",
@@ -91,7 +92,7 @@ const REGISTERS: [Register; 21] = [
         ],
     },
     Register {
-        name: "EPIEN",
+        head: "  R12  EPIEN",
         bits: &[
             "",
             "",
@@ -104,7 +105,7 @@ const REGISTERS: [Register; 21] = [
         ],
     },
     Register {
-        name: "USBIRQ",
+        head: "  R13  USBIRQ",
         bits: &[
             "URESDNIRQ",
             "VBUSIRQ",
@@ -117,37 +118,37 @@ const REGISTERS: [Register; 21] = [
         ],
     },
     Register {
-        name: "USBIEN",
+        head: "  R14  USBIEN",
         bits: &[
             "URESDNIE", "VBUSIE", "NOVBUSIE", "SUSPIE", "URESIE", "BUSACTIE", "RWUDNIE", "OSCOKIE",
         ],
     },
     Register {
-        name: "USBCTL",
+        head: "  R15  USBCTL",
         bits: &[
             "HOSCSTEN", "VBGATE", "CHIPRES", "PWRDOWN", "CONNECT", "SIGRWU", "", "",
         ],
     },
     Register {
-        name: "CPUCTL",
+        head: "  R16  CPUCTL",
         bits: &["", "", "", "", "", "", "", "IE"],
     },
     Register {
-        name: "PINCTL",
+        head: "  R17  PINCTL",
         bits: &[
             "EP3INAK", "EP2INAK", "EP0INAK", "FDUPSPI", "INTLEVEL", "POSINT", "GPXB", "GPXA",
         ],
     },
     Register {
-        name: "REVISION",
+        head: "  R18  REVISION",
         bits: &["", "", "", "", "REV3", "REV2", "REV1", "REV0"],
     },
     Register {
-        name: "FNADDR",
+        head: "  R19  FNADDR",
         bits: &[],
     },
     Register {
-        name: "IOPINS",
+        head: "  R20  IOPINS",
         bits: &[
             "GPIN3", "GPIN2", "GPIN1", "GPIN0", "GPOUT3", "GPOUT2", "GPOUT1", "GPOUT0",
         ],
@@ -162,27 +163,29 @@ fn write_bits(out: &mut impl Write, names: &[&str], value: u8) -> fmt::Result {
     if names.is_empty() || value == 0 {
         return Ok(());
     }
-    write!(out, " ")?;
+    out.write_str(" ")?;
     for (mask, name) in MASKS.iter().zip(names) {
         if value & mask != 0 {
-            write!(out, " {name}")?;
+            out.write_str(" ")?;
+            out.write_str(name)?;
         }
     }
     Ok(())
 }
 
-// R0 to R20, a line each: its number, its name, its value and its bits that are 1.
+// R0 to R20, a line each: its number, its name, its value and its bits that are 1. Text goes out as it stands: by `{:<12}` and `{:02X}` the
+// record took twice as long.
 #[derive(Clone, Copy)]
 pub struct RegisterMap<'a>(pub &'a Chip);
 
 impl<'a> fmt::Display for RegisterMap<'a> {
     fn fmt<W: Write>(&self, f: &mut fmt::Formatter<W>) -> fmt::Result {
         for (number, register) in (0..21u8).zip(&REGISTERS) {
-            let name = register.name;
-            let value = registers::read_register(*self.0, number);
-            write!(f, "  R{number:<2}  {name:<12}{value:02X}")?;
-            write_bits(f, register.bits, value)?;
-            writeln!(f, "")?;
+            let value = [registers::read_register(*self.0, number)];
+            write_column(f, register.head, 18)?;
+            fmt::Display::fmt(&Bytes(&value), f)?;
+            write_bits(f, register.bits, value[0])?;
+            f.write_str("\n")?;
         }
         Ok(())
     }

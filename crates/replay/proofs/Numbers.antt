@@ -29,7 +29,7 @@ use Rattle.bus.proofs.Accepted.{accepted_sound}
 use Rattle.bus.proofs.Call.{refusal_of_law, pid_of}
 use Rattle.bus.proofs.Replies.{Packet, event_packet}
 use Rattle.event_body.specs.Body.{event_of, payload_of}
-use Rattle.flat.specs.Answer.{flat_answer_of}
+use Rattle.flat.specs.Answer.{flat_transfer, flat_event}
 use Rattle.replay.specs.Results.{call_with, answer_refusal, answer_bytes, flat_answer}
 
 -- ---- the numbers
@@ -76,7 +76,7 @@ accepted_packet : (c : Chip) (e : Event) (vs : List ℕ) (room : ℕ) → checke
 accepted_packet c e vs room h = event_packet c e vs (accepted_sound (sound_chip c) e (length vs) room h)
 
 pub call_numbered : (c : Chip) (k : Call) → CallNumbered c k
-unfolding answer_of flat_answer_of
+unfolding answer_of flat_transfer flat_event
 call_numbered c (transfer bytes room) = transfer_numbered c bytes room (checked max3420e c (transfer bytes room))
 call_numbered c (event e vs room) =
     let k = event e vs room in
@@ -87,7 +87,7 @@ call_numbered c (event e vs room) =
     }
 
 pub call_chip : (c : Chip) (k : Call) → (flat_answer c k).chip ≡ call_to max3420e c k
-unfolding flat_answer_of
+unfolding flat_transfer flat_event
 call_chip c (transfer bytes room) = refl
 call_chip c (event e vs room) = refl
 

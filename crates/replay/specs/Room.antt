@@ -1,4 +1,4 @@
--- What the functions of a replay ask of their callers: a lesson's file, and room that is always enough.
+-- A lesson's file, and room that is always enough for it. Of a lesson the code has it by `most_file` (proofs/Most.antt).
 use Rattle.std.specs.Prelude.{◌≡◌, List, ℕ, ◌+◌, ◌*◌, ◌≤◌, length, Ok}
 use Rattle.lesson.specs.Read.{lesson_of, entries_of, reading_checked}
 

@@ -33,19 +33,19 @@ struct Run {
 }
 
 // The call of an entry of that kind and body, its reply in the lent bytes.
+#[tactic(auto, unfolding(flat::specs::Answer::flat_answer_of, flat::specs::Answer::flat_transfer, flat::specs::Answer::flat_event))]
 fn play(chip: Chip, kind: EntryKind, body: &[u8], reply: &mut [u8]) -> FlatAnswer
     ensures { (result ≡ flat_answer chip (call_with (length reply.old) (kind_number kind) body.now))
         × (reply.new
         ≡ buffer_after (answer_of max3420e chip (call_with (length reply.old) (kind_number kind) body.now)) reply.old) }
 {
-    match kind {
-        EntryKind::Transfer => flat::flat_answer(spi::transfer(chip, body, reply)),
-        EntryKind::Event => {
-            let event = event_body::event_of(body);
-            let payload = event_body::payload_of(body);
-            flat::flat_answer(bus::event(chip, event, payload, reply))
-        }
+    // A way of its own for each kind, so that no two ways join holding a record.
+    if let EntryKind::Transfer = kind {
+        return flat::flat_answer(spi::transfer(chip, body, reply));
     }
+    let event = event_body::event_of(body);
+    let payload = event_body::payload_of(body);
+    flat::flat_answer(bus::event(chip, event, payload, reply))
 }
 
 // The result of a call, at its place.

@@ -40,9 +40,16 @@ pub struct Roster {
     pub seats: [Seat; 16],
 }
 
+// Whom a line names: a desk, and a key that may be its own.
+#[derive(Clone, Copy)]
+pub struct Pupil {
+    pub number: DeskNumber,
+    pub key: u32,
+}
+
 // A desk as its pupil calls it.
 #[derive(Drop)]
-struct Pupil<'a> {
+struct Seated<'a> {
     classroom: &'a mut Classroom,
     calls: &'a mut u64,
     number: DeskNumber,
@@ -50,14 +57,14 @@ struct Pupil<'a> {
     ghost there: { is_desk number ≡ true },
 }
 
-impl<'a> Pupil<'a> {
+impl<'a> Seated<'a> {
     // One call more.
     fn count(&mut self) {
         *self.calls = self.calls.wrapping_add(1);
     }
 }
 
-impl<'a> Caller for Pupil<'a> {
+impl<'a> Caller for Seated<'a> {
     fn transfer(&mut self, bytes: &[u8], reply: &mut [u8]) -> CallAnswer<(), u16> {
         self.count();
         let answer = desk::transfer(*self.classroom, self.number, self.key, bytes, reply);
@@ -107,16 +114,17 @@ impl Roster {
     // A line at a desk. The key is looked at first, whatever the line asks for; a line that it refuses changes nothing.
     pub fn call(
         &mut self,
-        desk: DeskNumber,
-        key: u32,
+        pupil: Pupil,
         number: u64,
         line: &[u8],
         bytes: &mut [u8],
         out: &mut impl Write,
     ) -> fmt::Result
         requires { length line.now ≤ length bytes.old }
-        ensures { IsErr (calling_checked self.old.classroom desk key) → self.new ≡ self.old }
+        ensures { IsErr (calling_checked self.old.classroom pupil.number pupil.key) → self.new ≡ self.old }
     {
+        let desk = pupil.number;
+        let key = pupil.key;
         let checked = classroom::check_call(self.classroom, desk, key);
         if checked.is_err() {
             let told = Checked(checked);
@@ -125,13 +133,13 @@ impl Roster {
         let i = desk.0 as usize;
         // Taken out and put back: two fields are not lent through one element.
         let mut seat = self.seats[i];
-        let mut pupil = Pupil {
+        let mut seated = Seated {
             classroom: &mut self.classroom,
             calls: &mut seat.calls,
             number: desk,
             key,
         };
-        let told = console::take_line(&mut pupil, &mut seat.room, number, line, bytes, out);
+        let told = console::take_line(&mut seated, &mut seat.room, number, line, bytes, out);
         self.seats[i] = seat;
         told
     }

@@ -177,6 +177,19 @@ fn read_event<'a>(
     }
 }
 
+// The call of such an event: it has no bytes.
+fn read_short<'a>(
+    word: &'a [u8],
+    mut reader: Reader<'a>,
+    expected: Expected,
+) -> Result<Command, Fault<'a>>
+    ensures { IfOk result (λ command. command_count command ≡ 0) }
+{
+    let sent = read_event(word, &mut reader, expected)?;
+    reader.end()?;
+    Ok(Command::Event(sent, 0))
+}
+
 // A call of the chip: the line whose first word is known. Another line is a fault, by what is expected of its first word.
 pub fn read_call<'a>(
     word: &'a [u8],
@@ -197,11 +210,7 @@ pub fn read_call<'a>(
             let sent = read_out(&mut reader)?;
             Ok(Command::Event(sent, reader.bytes(bytes)?))
         }
-        _ => {
-            let sent = read_event(word, &mut reader, expected)?;
-            reader.end()?;
-            Ok(Command::Event(sent, 0))
-        }
+        _ => read_short(word, reader, expected),
     }
 }
 

@@ -2,10 +2,9 @@
 // answers to them.
 #![tactic(auto)]
 
-ghost use Rattle.std.specs.Prelude.{◌≤◌, length, IfOk, IfSome};
-ghost use Rattle.arrayvec.specs.ArrayVec.{array_vec_len};
+ghost use Rattle.std.specs.Prelude.{◌≡◌, ◌≤◌, length, take, IfOk, IfSome, OnSome, IfNone};
+ghost use Rattle.session.specs.Session.{kept};
 
-use arrayvec::ArrayVec;
 use std::io::Read;
 use std::ops::Range;
 use std::{fmt, io};
@@ -36,40 +35,55 @@ pub struct Line<'a> {
     pub text: Result<&'a [u8], TooLong>,
 }
 
-#[derive(Drop)]
-pub struct Session<R> {
-    // None once it has ended.
-    input: Option<R>,
-    // What is read; the lines before `start` are taken.
-    text: ArrayVec<u8, ROOM>,
-    start: usize,
+// An input's lines so far. The input is lent to each read: who calls keeps it, and a session is no more than bytes and numbers.
+#[derive(Clone, Copy)]
+pub struct Session {
+    // What is read, so many bytes; the lines before `start` are taken.
+    pub text: [u8; ROOM],
+    pub filled: usize,
+    pub start: usize,
+    // No line ends from there to here, so that no byte is searched twice.
+    pub searched: usize,
     // The lines that are taken.
-    number: u64,
-    ghost inside: { start ≤ array_vec_len text },
+    pub number: u64,
+    // The input has ended.
+    pub ended: bool,
+    ghost inside: { (start ≤ searched) × (searched ≤ filled) × (filled ≤ 81922) },
 }
 
-impl<R: Read + Drop> Session<R> {
-    pub fn begin(input: R) -> Self {
+impl Session {
+    // Nothing is read.
+    pub fn begin() -> Self
+        ensures { (result.filled ≡ 0) × (result.start ≡ 0) }
+    {
         Session {
-            input: Some(input),
-            text: ArrayVec::new(),
+            text: [0; ROOM],
+            filled: 0,
             start: 0,
+            searched: 0,
             number: 0,
+            ended: false,
         }
     }
 
     // Where the next line is, with its CR and without its LF.
     fn take(&mut self) -> Option<Range<usize>>
-        ensures { IfSome result (λ r. (r.start ≤ r.end) × (r.end ≤ array_vec_len self.new.text)) }
+        ensures { IfSome result (λ r. (r.start ≤ r.end) × (r.end ≤ self.new.filled)) }
     {
         let start = self.start;
-        let rest = &self.text.as_slice()[start..];
+        let searched = self.searched;
+        let filled = self.filled;
+        let rest = &self.text[searched..filled];
         let (end, next) = match rest.iter().position(|byte| *byte == b'\n') {
-            Some(length) => (start + length, start + length + 1),
-            None if self.input.is_some() || rest.is_empty() => return None,
-            None => (self.text.len(), self.text.len()),
+            Some(length) => (searched + length, searched + length + 1),
+            None if self.ended && start < filled => (filled, filled),
+            None => {
+                self.searched = filled;
+                return None;
+            }
         };
         self.start = next;
+        self.searched = next;
         self.number = self.number.wrapping_add(1);
         Some(start..end)
     }
@@ -80,7 +94,7 @@ impl<R: Read + Drop> Session<R> {
     {
         let place = self.take()?;
         let number = self.number;
-        let whole = &self.text.as_slice()[place];
+        let whole = &self.text[place];
         let text = words::without_return(whole);
         if LINE < text.len() {
             return Some(Line {
@@ -94,18 +108,37 @@ impl<R: Read + Drop> Session<R> {
         })
     }
 
-    // Reads once, or says by None that the input had ended before. It ends with a read that fails, too.
-    pub fn read(&mut self) -> Option<io::Result<()>> {
-        let mut chunk = [0u8; CHUNK];
-        let read = self.input.as_mut()?.read(&mut chunk);
-        let count = read.unwrap_or(0);
-        if count == 0 {
-            self.input = None;
+    // What is not taken goes to the front, as much of it as is kept. Where it stands there nothing is moved: a line may come byte by byte.
+    fn keep(&mut self)
+        ensures front { (self.new.start ≡ 0) × (self.new.filled ≤ 16386) }
+        ensures kept { take self.new.filled self.new.text ≡ kept self.old.text self.old.start self.old.filled }
+        ensures all { self.new.filled ≡ length (kept self.old.text self.old.start self.old.filled) }
+    {
+        let count = (self.filled - self.start).min(KEPT);
+        self.searched = (self.searched - self.start).min(count);
+        self.filled = count;
+        if self.start == 0 {
+            return;
         }
-        self.text.drain(..self.start);
+        self.text.copy_within(self.start..self.start + count, 0);
         self.start = 0;
-        self.text.truncate(KEPT);
-        let _fits = self.text.try_extend_from_slice(&chunk[..count]);
+    }
+
+    // Reads once, or says by None that the input had ended before. It ends with a read that fails, too.
+    pub fn read(&mut self, input: &mut impl Read) -> Option<io::Result<()>>
+        ensures kept { OnSome result (take (length (kept self.old.text self.old.start self.old.filled)) self.new.text ≡ kept self.old.text self.old.start self.old.filled) }
+        ensures filled { OnSome result ((self.new.start ≡ 0) × (length (kept self.old.text self.old.start self.old.filled) ≤ self.new.filled)) }
+        ensures ended { IfNone result (self.new ≡ self.old) }
+    {
+        if self.ended {
+            return None;
+        }
+        self.keep();
+        let kept = self.filled;
+        let read = input.read(&mut self.text[kept..kept + CHUNK]);
+        let count = read.unwrap_or(0);
+        self.ended = count == 0;
+        self.filled = kept + count;
         Some(read.map(|_| ()))
     }
 }

@@ -1,5 +1,5 @@
 -- The board's own answer, on the desk's records.
-use Rattle.std.proofs.Common.{◌≡◌, length, refl, rules}
+use Rattle.std.proofs.Common.{◌≡◌, length, rules}
 use Rattle.model.specs.Call.{Call}
 use Rattle.board.specs.Board.{board_transfer}
 use Rattle.classroom_record.specs.declared.Desk.{Desk}
@@ -19,4 +19,4 @@ returns-in-Ok c =
 
 pub returns-in-Err : goal.returns-in-Err
 unfolding desk_transfer transfer_lent
-returns-in-Err c = rw c.in-Err.ensures (c.turned_away.ensures, refl)
+returns-in-Err c = rw c.in-Err.ensures (search rules)
